@@ -1,0 +1,45 @@
+-- Flags stay below 16, and clearing them trips no coil.
+use Prim.Native.Nat.{ℕ, zero, suc, _<_, _≤_}
+use lib.Bits.{bitAnd, bitOr, and-le-r, or-lt}
+use lib.Dec.{eqb}
+use mathlib.Core.Bool.{Bool, true, false, cond, _&&_}
+use mathlib.Core.Logic.{_⊎_, inl, inr, ⊎-elim}
+use mathlib.Core.Path.{_≡_, refl, ap, sym, _∙_}
+use native.Mathlib.Omega.{arith}
+use Rattle.std.proofs.shelf.Ways.{tells}
+use Rattle.coil.specs.Meaning.{tripped, noted, cleared}
+
+-- a test passes at every number below n
+abbrev every : (ℕ → Bool) → ℕ → Bool
+every test zero = true
+every test (suc n) = cond (test n) (every test n) false
+
+every-at : (test : ℕ → Bool) (n k : ℕ) → every test n ≡ true → k < n → test k ≡ true
+every-at test zero k e h = elim h [ ]
+every-at test (suc n) k e h = by (test n) refl (λ rest. every-at test n k rest)
+  where
+    by : (t : Bool) → test n ≡ t → (every test n ≡ true → k < n → test k ≡ true) → test k ≡ true
+    by true is below = elim (last k n h) [ inl same ↦ ap test same ∙ is | inr less ↦ below (sym (ap (λ x. cond x (every test n) false) is) ∙ e) less ]
+      where
+        last : (k n : ℕ) → k < suc n → (k ≡ n) ⊎ (k < n)
+        last k n h = grind arith
+    by false is below = absurd (grind (arith, sym (ap (λ x. cond x (every test n) false) is) ∙ e))
+
+still-tripped : ℕ → Bool
+still-tripped f = cond (tripped (cleared f)) (tripped f) true
+
+all-still : every still-tripped 16 ≡ true
+unfolding still-tripped tripped cleared
+all-still = refl
+
+pub cleared-tripped : (f : ℕ) → f < 16 → tripped (cleared f) ≡ true → tripped f ≡ true
+unfolding still-tripped
+cleared-tripped f h e = sym (ap (λ x. cond x (tripped f) true) e) ∙ every-at still-tripped 16 f all-still h
+
+pub cleared-below : (f : ℕ) → cleared f < 16
+unfolding cleared
+cleared-below f = omega (arith, and-le-r f 2)
+
+pub noted-below : (f g : ℕ) → noted f g < 16
+unfolding noted
+noted-below f g = or-lt 4 (bitAnd f 13) (bitAnd g 15) (omega (arith, and-le-r f 13)) (omega (arith, and-le-r g 15))

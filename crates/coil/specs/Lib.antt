@@ -1,0 +1,4 @@
+pub mod Modulo
+pub mod Meaning
+pub mod Chains
+pub mod Kept
