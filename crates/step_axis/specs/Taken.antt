@@ -2,18 +2,21 @@
 use Prim.Native.Nat.{ℕ, _+_, _*_, _/_, _%_, _^_}
 use lib.IntN.{ℤ, pos, _+ℤ_, _*ℤ_}
 use mathlib.Core.Bool.{Bool, true, false, cond, not, _&&_, _||_}
-use mathlib.Core.List.{List, [], _∷_}
+use mathlib.Core.List.{List, [], _∷_, map}
+use mathlib.Core.Path.{_≡_}
 use Rattle.axis.specs.Kinds.{Kind, Outcome, Seen}
 use Rattle.axis.specs.Levels.{is-powered}
 use Rattle.axis.specs.declared.AxisFault.{AxisFault}
 use Rattle.axis.specs.declared.AxisFault.the-variants as fault
 use Rattle.axis.specs.declared.currents.Current.{Current}
 use Rattle.axis.specs.declared.currents.Current.the-variants.{Off}
-use Rattle.coil.specs.Meaning.{tripped}
+use Rattle.coil.specs.Chains.{Chain, Did, on}
+use Rattle.coil.specs.Meaning.{Coils, at, put, tripped, with-count}
 use Rattle.coil.specs.Modulo.{modulo}
 use Rattle.coil.specs.declared.CoilCall.{CoilCall}
 use Rattle.coil.specs.declared.CoilCall.the-variants.{Advance}
 use Rattle.coil.specs.declared.CoilFault.the-variants.{Tripped}
+use Rattle.coil.specs.declared.CoilId.{CoilId}
 use Rattle.std.specs.declared.result.Result.{Result}
 use Rattle.std.specs.declared.result.Result.the-variants.{Ok, Err}
 use Rattle.step_axis.specs.Words.{scale, code-number, steps, code, counted, last-word, config-from, first-config}
@@ -40,11 +43,12 @@ declined flags [] = false
 declined flags (w ∷ ws) = is-powered (code w) && tripped flags || declined flags ws
 
 -- the code in force: the last counted word's, or none after a decline
-abbrev pub code-in-force : Bool → ℕ → Current
-code-in-force is-declined w = cond is-declined Off (code w)
+abbrev pub code-in-force : ℕ → List ℕ → ℕ → Current
+code-in-force flags ws last = cond (declined flags ws) Off (code last)
 
-abbrev pub ending : Bool → ℕ → Result (Unit {0}) AxisFault
-ending is-declined flags = cond is-declined (Err (fault.Coil (Tripped flags))) (Ok tt)
+-- how the taking ends: with the coil's fault, or well
+abbrev pub ending : ℕ → List ℕ → Result (Unit {0}) AxisFault
+ending flags ws = cond (declined flags ws) (Err (fault.Coil (Tripped flags))) (Ok tt)
 
 -- the position after a cycle, modulo 2 ^ 16, and the count, modulo 2 ^ 32
 abbrev pub position-after : ℕ → ℕ → List ℕ → ℕ
@@ -53,6 +57,15 @@ position-after position flags ws = modulo (2 ^ 16) (pos position +ℤ steps-take
 abbrev pub count-after : ℕ → ℕ → ℕ → List ℕ → ℕ
 count-after count flags s ws = modulo (2 ^ 32) (pos count +ℤ steps-taken flags ws *ℤ pos s)
 
+-- the words ws, one after the other on the coil i: the driver becomes d′
+pub record Took {D : Type 0} (meaning : D → Coils) (did : Did D) (i : CoilId) (s : ℕ) (ws : List ℕ) (d d′ : D) : Type 0 where
+  pub coils : meaning d′ ≡ put (meaning d) i (with-count (at (meaning d) i) (count-after (at (meaning d) i .count) (at (meaning d) i .flags) s ws))
+  pub calls : Chain did d (map (on i) (advances (at (meaning d) i .flags) s ws)) d′
+
+-- the steps of a word that is taken, or none
+abbrev pub word-ending : ℕ → ℕ → Result ℤ AxisFault
+word-ending flags w = cond (declined flags (w ∷ [])) (Err (fault.Coil (Tripped flags))) (Ok (cond (taken flags w) (steps w) (pos 0)))
+
 -- position, flags, code in force, four zero bytes
 abbrev pub answer-bytes : ℕ → ℕ → Current → List ℕ
 answer-bytes position flags current = position % 256 ∷ position / 256 % 256 ∷ flags ∷ code-number current ∷ 0 ∷ 0 ∷ 0 ∷ 0 ∷ []
@@ -60,7 +73,7 @@ answer-bytes position flags current = position % 256 ∷ position / 256 % 256 �
 abbrev pub axis-after : StepConfig → StepAxis → ℕ → List ℕ → StepAxis
 axis-after config x flags orders = record {
   position = position-after (x .position) flags (counted config orders);
-  current = code-in-force (declined flags (counted config orders)) (last-word config orders);
+  current = code-in-force flags (counted config orders) (last-word config orders);
 }
 
 abbrev pub step-cycle : StepConfig → StepAxis → Seen → List ℕ → Outcome StepAxis
@@ -70,7 +83,7 @@ step-cycle config x s orders = record {
   flags = s .flags;
   calls = advances (s .flags) (scale (config .resolution)) (counted config orders);
   answer = answer-bytes (axis-after config x (s .flags) orders .position) (s .flags) (axis-after config x (s .flags) orders .current);
-  ending = ending (declined (s .flags) (counted config orders)) (s .flags);
+  ending = ending (s .flags) (counted config orders);
 }
 
 -- all that a step axis means

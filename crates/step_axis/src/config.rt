@@ -1,7 +1,8 @@
 // How step words are read: how many count in a cycle, and how large a step is.
 ghost use mathlib.Core.Path.{_≡_};
 ghost use Prim.Native.Nat.{_≤_};
-ghost use lib.IntN.{pos};
+ghost use lib.IntN.{pos, negℤ, _*ℤ_};
+ghost use lib.Signed.{_≤ℤ_};
 ghost use Rattle.step_axis.specs.Words.{word-count, scale, config-from};
 
 // How many of the four words count.
@@ -42,16 +43,19 @@ impl WordCount {
 }
 
 impl Resolution {
-    // Microsteps in a step.
-    pub(crate) fn scale(self) -> i32
-        ensures value { λ r. ⌜ r ≡ pos (scale self) ⌝ }
-        ensures most { λ r. ⌜ scale self ≤ 8 ⌝ }
+    // The microsteps of so many steps.
+    pub(crate) fn microsteps(self, steps: i16) -> i32
+        requires { ⌜ negℤ (pos 8191) ≤ℤ steps ⌝ ∗ ⌜ steps ≤ℤ pos 8191 ⌝ }
+        ensures value { λ r. ⌜ r ≡ steps *ℤ pos (scale self) ⌝ }
+        ensures least { λ r. ⌜ negℤ (pos 65535) ≤ℤ r ⌝ }
+        ensures most { λ r. ⌜ r ≤ℤ pos 65535 ⌝ }
     {
+        let steps = i32::from(steps);
         match self {
-            Resolution::Five => 8,
-            Resolution::Six => 4,
-            Resolution::Seven => 2,
-            Resolution::Eight => 1,
+            Resolution::Five => steps * 8,
+            Resolution::Six => steps * 4,
+            Resolution::Seven => steps * 2,
+            Resolution::Eight => steps,
         }
     }
 }

@@ -1,12 +1,19 @@
 // One motor driven by step words: up to four words a cycle, each with signed steps and a current code.
+ghost use mathlib.Core.List.{[], _∷_};
 ghost use mathlib.Core.Path.{_≡_};
-ghost use Prim.Native.Nat.{_≤_, _<_};
+ghost use Prim.Native.Nat.{_<_};
 ghost use lib.IntN.{pos, negℤ};
 ghost use lib.ListN.{length};
 ghost use lib.Signed.{_≤ℤ_};
-ghost use Rattle.step_axis.specs.Taken.{step-kind};
-ghost use Rattle.step_axis.specs.Words.{code, code-number, steps, word};
+ghost use Rattle.coil.specs.Meaning.{at as coil-at};
+ghost use Rattle.step_axis.specs.Taken.{Took, answer-bytes, code-in-force, ending, step-kind, steps-taken, word-ending};
+ghost use Rattle.step_axis.specs.Words.{code, code-number, counted, scale, steps, word};
+use axis::Axis;
+use axis::AxisFault;
+use axis::AxisFaultFromCoil;
 use axis::Current;
+use coil::CoilDriver;
+use coil::CoilId;
 
 mod config;
 
@@ -57,4 +64,44 @@ fn word_at(orders: &[u8], at: usize) -> u16
     ensures { λ r. ⌜ r ≡ word (now (orders .entry)) at ⌝ }
 {
     u16::from_le_bytes([orders[2 * at], orders[2 * at + 1]])
+}
+
+// Takes one word, unless its code is none: the coil advances. Tells the steps that it took.
+fn take_word<D: CoilDriver>(
+    resolution: Resolution,
+    driver: &mut D,
+    coil: CoilId,
+    word: u16,
+) -> Result<i16, AxisFault>
+    ensures took { λ _. ⌜ Took (D·CoilDriver .meaning) (D·CoilDriver .did) coil (scale resolution) (word ∷ []) (now (driver .entry)) (now (driver .exit)) ⌝ }
+    ensures ending { λ r. ⌜ r ≡ word-ending (coil-at (D·CoilDriver .meaning (now (driver .entry))) coil .flags) word ⌝ }
+{
+    let (steps, code) = decode(word);
+    if !code.is_powered() {
+        return Ok(0);
+    }
+    driver.advance(coil, resolution.microsteps(steps))?;
+    Ok(steps)
+}
+
+// Takes the words that count, in order, until the coil declines one. Tells the signed sum of the steps that it took.
+fn take_words<D: CoilDriver>(
+    config: StepConfig,
+    driver: &mut D,
+    coil: CoilId,
+    orders: &[u8],
+) -> (i16, Result<(), AxisFault>)
+    requires { ⌜ length (now orders) ≡ 8 ⌝ }
+    ensures took { λ _. ⌜ Took (D·CoilDriver .meaning) (D·CoilDriver .did) coil (scale (config .resolution)) (counted config (now (orders .entry))) (now (driver .entry)) (now (driver .exit)) ⌝ }
+    ensures sum { λ r. ⌜ r .0 ≡ steps-taken (coil-at (D·CoilDriver .meaning (now (driver .entry))) coil .flags) (counted config (now (orders .entry))) ⌝ }
+    ensures ending { λ r. ⌜ r .1 ≡ ending (coil-at (D·CoilDriver .meaning (now (driver .entry))) coil .flags) (counted config (now (orders .entry))) ⌝ }
+{
+    let mut sum: i16 = 0;
+    for at in 0..config.words.count() {
+        match take_word(config.resolution, driver, coil, word_at(orders, at)) {
+            Ok(steps) => sum += steps,
+            Err(fault) => return (sum, Err(fault)),
+        }
+    }
+    (sum, Ok(()))
 }
