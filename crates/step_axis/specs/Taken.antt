@@ -42,13 +42,14 @@ abbrev pub declined : ℕ → List ℕ → Bool
 declined flags [] = false
 declined flags (w ∷ ws) = is-powered (code w) && tripped flags || declined flags ws
 
--- the code in force: the last counted word's, or none after a decline
-abbrev pub code-in-force : ℕ → List ℕ → ℕ → Current
-code-in-force flags ws last = cond (declined flags ws) Off (code last)
-
 -- how the taking ends: with the coil's fault, or well
 abbrev pub ending : ℕ → List ℕ → Result (Unit {0}) AxisFault
 ending flags ws = cond (declined flags ws) (Err (fault.Coil (Tripped flags))) (Ok tt)
+
+-- the code in force: the last counted word's, or none after a decline
+abbrev pub code-after : Result (Unit {0}) AxisFault → ℕ → Current
+code-after (Ok u) last = code last
+code-after (Err e) last = Off
 
 -- the position after a cycle, modulo 2 ^ 16, and the count, modulo 2 ^ 32
 abbrev pub position-after : ℕ → ℕ → List ℕ → ℕ
@@ -73,7 +74,7 @@ answer-bytes position flags current = position % 256 ∷ position / 256 % 256 �
 abbrev pub axis-after : StepConfig → StepAxis → ℕ → List ℕ → StepAxis
 axis-after config x flags orders = record {
   position = position-after (x .position) flags (counted config orders);
-  current = code-in-force flags (counted config orders) (last-word config orders);
+  current = code-after (ending flags (counted config orders)) (last-word config orders);
 }
 
 abbrev pub step-cycle : StepConfig → StepAxis → Seen → List ℕ → Outcome StepAxis

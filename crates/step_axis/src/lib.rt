@@ -6,8 +6,8 @@ ghost use lib.IntN.{pos, negℤ};
 ghost use lib.ListN.{length};
 ghost use lib.Signed.{_≤ℤ_};
 ghost use Rattle.coil.specs.Meaning.{at as coil-at};
-ghost use Rattle.step_axis.specs.Taken.{Took, answer-bytes, code-in-force, ending, step-kind, steps-taken, word-ending};
-ghost use Rattle.step_axis.specs.Words.{code, code-number, counted, scale, steps, word};
+ghost use Rattle.step_axis.specs.Taken.{Took, answer-bytes, code-after, ending, step-kind, steps-taken, word-ending};
+ghost use Rattle.step_axis.specs.Words.{code, code-number, counted, last-word, scale, steps, word};
 use axis::Axis;
 use axis::AxisFault;
 use axis::AxisFaultFromCoil;
@@ -104,4 +104,70 @@ fn take_words<D: CoilDriver>(
         }
     }
     (sum, Ok(()))
+}
+
+// The code of the last word that counts, or none after a decline.
+fn code_in_force(config: StepConfig, orders: &[u8], ended: Result<(), AxisFault>) -> Current
+    requires { ⌜ length (now orders) ≡ 8 ⌝ }
+    ensures { λ r. ⌜ r ≡ code-after ended (last-word config (now (orders .entry))) ⌝ }
+{
+    match ended {
+        Ok(()) => decode(word_at(orders, config.words.count() - 1)).1,
+        Err(_) => Current::Off,
+    }
+}
+
+impl StepAxis {
+    // Position, flags, code in force and four zero bytes.
+    fn show(&self, flags: u8, answer: &mut [u8])
+        requires { ⌜ length (now answer) ≡ 8 ⌝ }
+        ensures { λ _. ⌜ now (answer .exit) ≡ answer-bytes (now (self .entry) .position) flags (now (self .entry) .current) ⌝ }
+    {
+        let [low, high] = self.position.to_le_bytes();
+        let code = code_number(self.current);
+        answer.copy_from_slice(&[low, high, flags, code, 0, 0, 0, 0]);
+    }
+}
+
+pub impl Axis for StepAxis as StepAxisAxis {
+    type Config = StepConfig;
+
+    ghost kind = { step-kind };
+
+    fn new() -> StepAxis {
+        StepAxis {
+            position: 0,
+            current: Current::Off,
+        }
+    }
+
+    fn first_config() -> StepConfig {
+        StepConfig {
+            words: WordCount::One,
+            resolution: Resolution::Five,
+        }
+    }
+
+    fn config(value: i32) -> Option<StepConfig> {
+        StepConfig::from_register(value)
+    }
+
+    fn current(&self) -> Current {
+        self.current
+    }
+
+    fn cycle<D: CoilDriver>(
+        &mut self,
+        config: StepConfig,
+        driver: &mut D,
+        coil: CoilId,
+        orders: &[u8],
+        answer: &mut [u8],
+    ) -> Result<(), AxisFault> {
+        let (steps, ended) = take_words(config, driver, coil, orders);
+        self.position = self.position.wrapping_add_signed(steps);
+        self.current = code_in_force(config, orders, ended);
+        self.show(driver.flags(coil), answer);
+        ended
+    }
 }
