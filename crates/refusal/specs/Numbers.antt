@@ -1,0 +1,14 @@
+-- The number of each refusal. Assumes nothing.
+use Prim.Native.Nat.{ℕ}
+use Rattle.refusal.specs.declared.Refusal.{Refusal}
+use Rattle.refusal.specs.declared.Refusal.the-variants.{UnknownRegister, Closed, OutOfRange, MotorPowered, RecordLength, AnswerLength, UnknownMotor, UnknownFlags}
+
+abbrev pub number : Refusal → ℕ
+number UnknownRegister = 1
+number Closed = 2
+number OutOfRange = 3
+number MotorPowered = 4
+number RecordLength = 5
+number AnswerLength = 6
+number UnknownMotor = 7
+number UnknownFlags = 8
