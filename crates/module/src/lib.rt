@@ -1,0 +1,9 @@
+// The two-motor module.
+mod inner;
+mod motor;
+mod steps;
+
+pub use inner::Configuration;
+pub use inner::Inner;
+pub use motor::Fault;
+pub use motor::Motor;

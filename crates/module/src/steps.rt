@@ -1,0 +1,44 @@
+// The steps that a module's calls are made of.
+ghost use mathlib.Core.Path.{_≡_};
+ghost use Prim.Native.Nat.{_<_};
+ghost use lib.ListN.{length};
+ghost use Rattle.module.specs.Called.{Moved, Rested, Shared, Turn};
+ghost use Rattle.module.specs.Share.{place as place-of};
+use axis::Axis;
+use coil::CoilDriver;
+use coil::CoilId;
+use crate::inner::Inner;
+
+// The place of a motor in the table of two.
+fn place(coil: CoilId) -> usize
+    ensures value { λ r. ⌜ r ≡ place-of coil ⌝ }
+    ensures within { λ r. ⌜ r < 2 ⌝ }
+{
+    match coil {
+        CoilId::First => 0,
+        CoilId::Second => 1,
+    }
+}
+
+impl<A: Axis, D: CoilDriver> Inner<A, D> {
+    // One motor's part of a cycle.
+    fn turn(&mut self, coil: CoilId, orders: &[u8], answer: &mut [u8])
+        requires { ⌜ length (now orders) ≡ 8 ⌝ ∗ ⌜ length (now answer) ≡ 8 ⌝ }
+        ensures { λ _. ⌜ Turn (A·Axis .kind) (D·CoilDriver .meaning) (D·CoilDriver .did) coil (now (self .entry)) (now (self .exit)) (now (orders .entry)) (now (answer .exit)) ⌝ }
+    {
+        let config = self.configuration.model;
+        let cycle = self.cycles;
+        self.motors[place(coil)].cycle(config, &mut self.driver, coil, cycle, orders, answer);
+    }
+
+    // Both motors move, motor 1 first, and the cycle gets its number.
+    fn move_motors(&mut self, orders: &[u8], answer: &mut [u8])
+        requires { ⌜ length (now orders) ≡ 16 ⌝ ∗ ⌜ length (now answer) ≡ 16 ⌝ }
+        ensures { λ _. ⌜ Moved (A·Axis .kind) (D·CoilDriver .meaning) (D·CoilDriver .did) (now (self .entry)) (now (self .exit)) (now (orders .entry)) (now (answer .exit)) ⌝ }
+    {
+        self.cycles = self.cycles.wrapping_add(1);
+        let (first, second) = orders.split_at(8);
+        self.turn(CoilId::First, first, &mut answer[0..8]);
+        self.turn(CoilId::Second, second, &mut answer[8..]);
+    }
+}
