@@ -1,3 +1,4 @@
 mod Cuts
+mod Feeding
 mod Table
 mod Turns

@@ -6,6 +6,7 @@ use mathlib.Core.List.{List, [], _∷_}
 use mathlib.Core.Path.{_≡_, refl, sym, ap, subst, _∙_}
 use native.Mathlib.Omega.{arith}
 use Rattle.axis.specs.Kinds.{Kind, Seen}
+use Rattle.axis.specs.Levels.{chosen, levels}
 use Rattle.coil.specs.Chains.{Did}
 use Rattle.coil.specs.Meaning.{Coils}
 use Rattle.coil.specs.declared.CoilId.{CoilId}
@@ -36,3 +37,7 @@ turned-there {C} {A} k meaning did i n config s orders ms p d m x y answer e h t
 
 pub only-there : {C A : Type 0} (k : Kind C A) (ms : List (Motor A)) (i : CoilId) (p : ℕ) (m : Motor A) → p ≡ place i → p < length ms → set ms p m ≡ set ms (place i) (motor-at k (set ms p m) i)
 only-there k ms i p m e h = ap (λ q. set ms q m) e ∙ ap (λ z. set ms (place i) z) (sym (motor-put k ms i p m e h))
+
+pub wanted-there : {C A : Type 0} (k : Kind C A) (ms : List (Motor A)) (i : CoilId) (p : ℕ) (d : Motor A) → p ≡ place i → p < length ms →
+    chosen (k .current (getD ms p d .axis)) (levels (getD ms p d .currents)) ≡ chosen (k .current (motor-at k ms i .axis)) (levels (motor-at k ms i .currents))
+wanted-there k ms i p d e h = ap (λ m. chosen (k .current (m .axis)) (levels (m .currents))) (motor-there k ms i p d e h)

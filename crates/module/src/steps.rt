@@ -2,6 +2,7 @@
 ghost use mathlib.Core.Path.{_≡_};
 ghost use Prim.Native.Nat.{_<_};
 ghost use lib.ListN.{length};
+ghost use Rattle.coil.specs.declared.CoilId.{CoilId};
 ghost use Rattle.module.specs.Called.{Moved, Rested, Shared, Turn};
 ghost use Rattle.module.specs.Share.{place as place-of};
 use axis::Axis;
@@ -40,5 +41,17 @@ impl<A: Axis, D: CoilDriver> Inner<A, D> {
         let (first, second) = orders.split_at(8);
         self.turn(CoilId::First, first, &mut answer[0..8]);
         self.turn(CoilId::Second, second, &mut answer[8..]);
+    }
+
+    // Feeds both coils what the supply grants of what their motors want. Neither feed is declined.
+    fn share(&mut self)
+        requires { ⌜ ((i : CoilId) → Rested (A·Axis .kind) (D·CoilDriver .meaning) (now self) i) ⌝ }
+        ensures { λ _. ⌜ Shared (A·Axis .kind) (D·CoilDriver .meaning) (D·CoilDriver .did) (now (self .entry)) (now (self .exit)) ⌝ }
+    {
+        let first = self.motors[0].wanted();
+        let second = self.motors[1].wanted();
+        let (first, second) = self.supply.share(first, second);
+        let _ = self.driver.feed(CoilId::First, first);
+        let _ = self.driver.feed(CoilId::Second, second);
     }
 }
