@@ -1,4 +1,5 @@
 mod Cuts
 mod Feeding
+mod Setting
 mod Table
 mod Turns

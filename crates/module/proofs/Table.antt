@@ -2,11 +2,12 @@
 use Prim.Native.Nat.{ℕ, zero, suc, _<_}
 use lib.ListN.{getD, length, set}
 use lib.Seq.{getD-set-same}
+use mathlib.Core.Bool.{Bool}
 use mathlib.Core.List.{List, [], _∷_}
 use mathlib.Core.Path.{_≡_, refl, sym, ap, subst, _∙_}
 use native.Mathlib.Omega.{arith}
 use Rattle.axis.specs.Kinds.{Kind, Seen}
-use Rattle.axis.specs.Levels.{chosen, levels}
+use Rattle.axis.specs.Levels.{chosen, is-powered, levels}
 use Rattle.coil.specs.Chains.{Did}
 use Rattle.coil.specs.Meaning.{Coils}
 use Rattle.coil.specs.declared.CoilId.{CoilId}
@@ -38,6 +39,10 @@ turned-there {C} {A} k meaning did i n config s orders ms p d m x y answer e h t
 pub only-there : {C A : Type 0} (k : Kind C A) (ms : List (Motor A)) (i : CoilId) (p : ℕ) (m : Motor A) → p ≡ place i → p < length ms → set ms p m ≡ set ms (place i) (motor-at k (set ms p m) i)
 only-there k ms i p m e h = ap (λ q. set ms q m) e ∙ ap (λ z. set ms (place i) z) (sym (motor-put k ms i p m e h))
 
-pub wanted-there : {C A : Type 0} (k : Kind C A) (ms : List (Motor A)) (i : CoilId) (p : ℕ) (d : Motor A) → p ≡ place i → p < length ms →
-    chosen (k .current (getD ms p d .axis)) (levels (getD ms p d .currents)) ≡ chosen (k .current (motor-at k ms i .axis)) (levels (motor-at k ms i .currents))
-wanted-there k ms i p d e h = ap (λ m. chosen (k .current (m .axis)) (levels (m .currents))) (motor-there k ms i p d e h)
+pub wanted-there : {C A : Type 0} (k : Kind C A) (ms : List (Motor A)) (i : CoilId) (p : ℕ) (d : Motor A) (r : ℕ) → p ≡ place i → p < length ms →
+    r ≡ chosen (k .current (getD ms p d .axis)) (levels (getD ms p d .currents)) → r ≡ chosen (k .current (motor-at k ms i .axis)) (levels (motor-at k ms i .currents))
+wanted-there k ms i p d r e h q = q ∙ ap (λ m. chosen (k .current (m .axis)) (levels (m .currents))) (motor-there k ms i p d e h)
+
+pub powered-there : {C A : Type 0} (k : Kind C A) (ms : List (Motor A)) (i : CoilId) (p : ℕ) (d : Motor A) (r b : Bool) → p ≡ place i → p < length ms →
+    r ≡ is-powered (k .current (getD ms p d .axis)) → r ≡ b → is-powered (k .current (motor-at k ms i .axis)) ≡ b
+powered-there k ms i p d r b e h q is = ap (λ m. is-powered (k .current (m .axis))) (sym (motor-there k ms i p d e h)) ∙ sym q ∙ is

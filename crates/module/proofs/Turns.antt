@@ -56,7 +56,7 @@ own-share k meaning did i x y orders bytes t =
     same-share (share k meaning y i) (turned-share k i (share k meaning x i) orders)
     (ap (λ c. c .model) (t .configuration)) (t .turned .axis) (ap levels (t .turned .currents)) (t .turned .fault) (t .cycles) (ap (λ c. c .count) coil) (ap (λ c. c .flags) coil)
 
-other-motor : {C A : Type 0} (k : Kind C A) (i j : CoilId) (ms : List (Motor A)) (m : Motor A) → (i ≡ j → ⊥) → motor-at k (set ms (place i) m) j ≡ motor-at k ms j
+pub other-motor : {C A : Type 0} (k : Kind C A) (i j : CoilId) (ms : List (Motor A)) (m : Motor A) → (i ≡ j → ⊥) → motor-at k (set ms (place i) m) j ≡ motor-at k ms j
 other-motor k First First ms m ne = absurd (ne refl)
 other-motor k First Second ms m ne = getD-set-other ms 0 1 m (idle k) (λ e. absurd (omega arith))
 other-motor k Second First ms m ne = getD-set-other ms 1 0 m (idle k) (λ e. absurd (omega arith))

@@ -33,6 +33,10 @@ use Rattle.std.specs.declared.result.Result.{Result}
 use Rattle.std.specs.declared.result.Result.the-variants.{Ok, Err}
 use Rattle.supply.specs.Shares.{granted}
 
+-- a module with another configuration
+abbrev pub with-config : {C A D : Type 0} → Inner A D C → C → Inner A D C
+with-config x config = record { configuration = record { model = config }; motors = x .motors; cycles = x .cycles; supply = x .supply; driver = x .driver }
+
 -- what can be asked of a module
 pub data Asked : Type 0 where
   -- a register and a value
@@ -108,6 +112,15 @@ abbrev pub currents-after : Stage → Option Register → Bool → Levels → �
 currents-after stage None is-powered currents v = currents
 currents-after stage (Some r) is-powered currents v = cond (is-open (r .opened) stage) (adjusted (r .setting) is-powered currents v) currents
 
+-- a motor after a setting that concerns it
+abbrev pub set-share : {C A : Type 0} → Kind C A → Stage → Option Register → Share C A → ℤ → Share C A
+set-share k stage found h v = record {
+  config = config-after k stage found (h .config) v;
+  axis = h .axis;
+  currents = currents-after stage found (powered k h) (h .currents) v;
+  fault = h .fault; cycles = h .cycles; count = h .count; flags = h .flags;
+}
+
 -- what the kind of axis makes of a motor's eight bytes
 abbrev pub outcome : {C A : Type 0} → Kind C A → Share C A → List ℕ → Outcome A
 outcome k h orders = k .cycle (h .config) (h .axis) (sight h) orders
@@ -115,6 +128,10 @@ outcome k h orders = k .cycle (h .config) (h .axis) (sight h) orders
 -- accepted cycles are numbered from 1, modulo 2 ^ 32
 abbrev pub next-cycle : ℕ → ℕ
 next-cycle n = (n + 1) % 2 ^ 32
+
+-- a motor with other current settings
+abbrev pub with-currents : {C A : Type 0} → Share C A → Levels → Share C A
+with-currents h currents = record { config = h .config; axis = h .axis; currents = currents; fault = h .fault; cycles = h .cycles; count = h .count; flags = h .flags }
 
 -- the motor i after an accepted cycle
 abbrev pub moved-share : {C A : Type 0} → Kind C A → CoilId → Share C A → List ℕ → Share C A
@@ -130,12 +147,7 @@ moved-share k i h orders = record {
 
 -- the motor i after a deed: from its share and the deed alone
 abbrev pub after : {C A : Type 0} → Rules C A → CoilId → Share C A → Deed → Share C A
-after k i h (sets stage n v) = record {
-  config = config-after (k .kind) stage (look-up (k .lines) n) (h .config) v;
-  axis = h .axis;
-  currents = currents-after stage (look-up (k .lines) n) (powered (k .kind) h) (h .currents) v;
-  fault = h .fault; cycles = h .cycles; count = h .count; flags = h .flags;
-}
+after k i h (sets stage n v) = set-share (k .kind) stage (look-up (k .lines) n) h v
 after k i h starts = h
 after k i h (moves orders) = moved-share (k .kind) i h orders
 after k i h (misses n m) = h
@@ -161,6 +173,10 @@ concerns First (Current First which) = true
 concerns First (Current Second which) = false
 concerns Second (Current First which) = false
 concerns Second (Current Second which) = true
+
+-- the motor i after a setting of a current, taken or refused
+abbrev pub adjusted-share : {C A : Type 0} → Kind C A → Setting → CoilId → Share C A → ℤ → Share C A
+adjusted-share k s i h v = with-currents h (cond (concerns i s) (adjusted s (powered k h) (h .currents) v) (h .currents))
 
 abbrev pub set-deed : CoilId → Stage → Option Register → ℕ → ℤ → Option Deed
 set-deed i stage None n v = None
@@ -190,14 +206,14 @@ deed k stage i (acknowledgement n) = motor-deed i n acknowledges
 
 -- the number that a call answers; h and g are the shares of motor 1 and motor 2
 
+abbrev pub set-motor : {C A : Type 0} → Setting → Share C A → Share C A → Share C A
+set-motor Configuration h g = h
+set-motor (Current First which) h g = h
+set-motor (Current Second which) h g = g
+
 abbrev pub addressee : {C A : Type 0} → Option Register → Share C A → Share C A → Share C A
 addressee None h g = h
-addressee (Some r) h g = for (r .setting) h g
-  where
-    for : {C A : Type 0} → Setting → Share C A → Share C A → Share C A
-    for Configuration h g = h
-    for (Current First which) h g = h
-    for (Current Second which) h g = g
+addressee (Some r) h g = set-motor (r .setting) h g
 
 abbrev pub answer : {C A : Type 0} → Rules C A → Stage → Share C A → Share C A → Asked → Answer
 answer k stage h g (setting n v) = setting-answer (k .kind) stage (look-up (k .lines) n) (powered (k .kind) (addressee (look-up (k .lines) n) h g)) v

@@ -3,12 +3,19 @@ ghost use mathlib.Core.Path.{_≡_};
 ghost use Prim.Native.Nat.{_<_};
 ghost use lib.ListN.{length};
 ghost use Rattle.coil.specs.declared.CoilId.{CoilId};
-ghost use Rattle.module.specs.Called.{Moved, Rested, Shared, Turn};
+ghost use Rattle.module.specs.Called.{Adjusted, Moved, Rested, Shared, Turn};
+ghost use Rattle.module.specs.Effects.{in-range, with-config};
 ghost use Rattle.module.specs.Share.{place as place-of};
+ghost use Rattle.std.specs.Options.{valueOr};
+ghost use Rattle.std.specs.declared.result.Result.the-variants.{Ok};
 use axis::Axis;
+use axis::CurrentSetting;
+use axis::Points;
 use coil::CoilDriver;
 use coil::CoilId;
 use crate::inner::Inner;
+use refusal::Refusal;
+use registers::Model;
 
 // The place of a motor in the table of two.
 fn place(coil: CoilId) -> usize
@@ -53,5 +60,35 @@ impl<A: Axis, D: CoilDriver> Inner<A, D> {
         let (first, second) = self.supply.share(first, second);
         let _ = self.driver.feed(CoilId::First, first);
         let _ = self.driver.feed(CoilId::Second, second);
+    }
+}
+
+// Settings. Each question of the gate is asked in its order before anything is written.
+impl<A: Model, D: CoilDriver> Inner<A, D> {
+    // Sets the configuration of the function model: is the value in range?
+    fn configure(&mut self, value: i32) -> Result<(), Refusal>
+        ensures number { λ r. ⌜ r ≡ in-range (A·Axis .kind .config value) (Ok tt) ⌝ }
+        ensures after { λ _. ⌜ now (self .exit) ≡ with-config (now (self .entry)) (valueOr (A·Axis .kind .config value) (now (self .entry) .configuration .model)) ⌝ }
+    {
+        self.configuration.model = A::config(value).ok_or(Refusal::OutOfRange)?;
+        Ok(())
+    }
+
+    // Sets one of a motor's currents: is the value in range, and the motor not powered?
+    fn set_current(
+        &mut self,
+        coil: CoilId,
+        which: CurrentSetting,
+        value: i32,
+    ) -> Result<(), Refusal>
+        ensures { λ r. ⌜ Adjusted (A·Axis .kind) (D·CoilDriver .meaning) coil which value (now (self .entry)) (now (self .exit)) r ⌝ }
+    {
+        let points = Points::from_setting(value).ok_or(Refusal::OutOfRange)?;
+        let at = place(coil);
+        if self.motors[at].is_powered() {
+            return Err(Refusal::MotorPowered);
+        }
+        self.motors[at].set(which, points);
+        Ok(())
     }
 }
