@@ -1,3 +1,4 @@
+mod Calling
 mod Cuts
 mod Feeding
 mod Setting

@@ -1,4 +1,5 @@
 // The two-motor module.
+mod calls;
 mod inner;
 mod motor;
 mod steps;

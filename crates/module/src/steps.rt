@@ -3,8 +3,9 @@ ghost use mathlib.Core.Path.{_≡_};
 ghost use Prim.Native.Nat.{_<_};
 ghost use lib.ListN.{length};
 ghost use Rattle.coil.specs.declared.CoilId.{CoilId};
+ghost use Rattle.coil.specs.declared.CoilId.the-variants.{First, Second};
 ghost use Rattle.module.specs.Called.{Adjusted, Moved, Rested, Shared, Turn};
-ghost use Rattle.module.specs.Effects.{in-range, with-config};
+ghost use Rattle.module.specs.Effects.{in-range, of-motor, with-config};
 ghost use Rattle.module.specs.Share.{place as place-of};
 ghost use Rattle.std.specs.Options.{valueOr};
 ghost use Rattle.std.specs.declared.result.Result.the-variants.{Ok};
@@ -90,5 +91,16 @@ impl<A: Model, D: CoilDriver> Inner<A, D> {
         }
         self.motors[at].set(which, points);
         Ok(())
+    }
+}
+
+// The coil of a motor, by the motor's number.
+pub(crate) fn coil_of(motor: u8) -> Result<CoilId, Refusal>
+    ensures { λ r. ⌜ r ≡ of-motor motor First Second ⌝ }
+{
+    match motor {
+        1 => Ok(CoilId::First),
+        2 => Ok(CoilId::Second),
+        _ => Err(Refusal::UnknownMotor),
     }
 }

@@ -1,0 +1,36 @@
+// The calls of a module, over what it keeps at either stage.
+ghost use mathlib.Core.Path.{_≡_};
+ghost use lib.ListN.{length};
+ghost use Rattle.module.specs.Called.{Called, Filled};
+ghost use Rattle.module.specs.Effects.{acknowledgement, cycle, report, setting};
+ghost use Rattle.module.specs.Share.{rules};
+ghost use Rattle.registers.specs.declared.Stage.the-variants.{Running};
+use axis::Axis;
+use coil::CoilDriver;
+use crate::inner::Inner;
+use crate::steps::coil_of;
+use refusal::Refusal;
+use registers::Model;
+use registers::Setting;
+use registers::Stage;
+
+impl<A: Model, D: CoilDriver> Inner<A, D> {
+    pub(crate) fn report(&mut self, motor: u8, flags: u8) -> Result<(), Refusal>
+        ensures { λ r. ⌜ Called (rules (A·Axis .kind) (A·Model .lines)) (D·CoilDriver .meaning) (D·CoilDriver .did) Running (report motor flags) (now (self .entry)) (now (self .exit)) r ⌝ }
+    {
+        let coil = coil_of(motor)?;
+        if flags >= 16 {
+            return Err(Refusal::UnknownFlags);
+        }
+        self.driver.note(coil, flags);
+        Ok(())
+    }
+
+    pub(crate) fn acknowledge(&mut self, motor: u8) -> Result<(), Refusal>
+        ensures { λ r. ⌜ Called (rules (A·Axis .kind) (A·Model .lines)) (D·CoilDriver .meaning) (D·CoilDriver .did) Running (acknowledgement motor) (now (self .entry)) (now (self .exit)) r ⌝ }
+    {
+        let coil = coil_of(motor)?;
+        self.driver.clear(coil);
+        Ok(())
+    }
+}
