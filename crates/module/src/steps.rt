@@ -41,7 +41,7 @@ impl<A: Axis, D: CoilDriver> Inner<A, D> {
     }
 
     // Both motors move, motor 1 first, and the cycle gets its number.
-    fn move_motors(&mut self, orders: &[u8], answer: &mut [u8])
+    pub(crate) fn move_motors(&mut self, orders: &[u8], answer: &mut [u8])
         requires { ⌜ length (now orders) ≡ 16 ⌝ ∗ ⌜ length (now answer) ≡ 16 ⌝ }
         ensures { λ _. ⌜ Moved (A·Axis .kind) (D·CoilDriver .meaning) (D·CoilDriver .did) (now (self .entry)) (now (self .exit)) (now (orders .entry)) (now (answer .exit)) ⌝ }
     {
@@ -52,7 +52,7 @@ impl<A: Axis, D: CoilDriver> Inner<A, D> {
     }
 
     // Feeds both coils what the supply grants of what their motors want. Neither feed is declined.
-    fn share(&mut self)
+    pub(crate) fn share(&mut self)
         requires { ⌜ ((i : CoilId) → Rested (A·Axis .kind) (D·CoilDriver .meaning) (now self) i) ⌝ }
         ensures { λ _. ⌜ Shared (A·Axis .kind) (D·CoilDriver .meaning) (D·CoilDriver .did) (now (self .entry)) (now (self .exit)) ⌝ }
     {
@@ -67,7 +67,7 @@ impl<A: Axis, D: CoilDriver> Inner<A, D> {
 // Settings. Each question of the gate is asked in its order before anything is written.
 impl<A: Model, D: CoilDriver> Inner<A, D> {
     // Sets the configuration of the function model: is the value in range?
-    fn configure(&mut self, value: i32) -> Result<(), Refusal>
+    pub(crate) fn configure(&mut self, value: i32) -> Result<(), Refusal>
         ensures number { λ r. ⌜ r ≡ in-range (A·Axis .kind .config value) (Ok tt) ⌝ }
         ensures after { λ _. ⌜ now (self .exit) ≡ with-config (now (self .entry)) (valueOr (A·Axis .kind .config value) (now (self .entry) .configuration .model)) ⌝ }
     {
@@ -76,7 +76,7 @@ impl<A: Model, D: CoilDriver> Inner<A, D> {
     }
 
     // Sets one of a motor's currents: is the value in range, and the motor not powered?
-    fn set_current(
+    pub(crate) fn set_current(
         &mut self,
         coil: CoilId,
         which: CurrentSetting,
