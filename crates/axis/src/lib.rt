@@ -15,12 +15,12 @@ use coil::CoilId;
 mod currents;
 mod points;
 
+use coil::CoilFaultDebug;
+use coil::CoilFaultPartialEq;
 pub use currents::Current;
 pub use currents::CurrentSetting;
 pub use currents::Currents;
 pub use points::Points;
-use coil::CoilFaultDebug;
-use coil::CoilFaultPartialEq;
 
 // Why an axis could not do what it was ordered.
 #[derive(Clone, Copy, PartialEq, Eq, Debug)]
@@ -38,7 +38,7 @@ pub impl From<CoilFault> for AxisFault as AxisFaultFromCoil {
 }
 
 // One kind of axis. What it means stands in `kind`; points are not among what it sees.
-pub trait Axis: Drop {
+pub trait Axis: Copy {
     // the configuration that all axes of a module share
     type Config: Copy;
 

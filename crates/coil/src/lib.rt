@@ -16,8 +16,11 @@ pub use pair::CoilPairDriver;
 
 // Flag bits of a coil.
 pub const STALL: u8 = 1;
+
 pub const OVERTEMPERATURE: u8 = 2;
+
 pub const OPEN_LOAD: u8 = 4;
+
 pub const OVERCURRENT: u8 = 8;
 
 // The most points that a coil is fed.

@@ -17,7 +17,9 @@ use crate::state::CoilState;
 
 // Flags that stand until they are cleared; overtemperature follows the reports.
 const LATCHED: u8 = STALL | OPEN_LOAD | OVERCURRENT;
+
 const TRIPPING: u8 = OVERTEMPERATURE | OVERCURRENT;
+
 const ALL_FLAGS: u8 = 15;
 
 impl CoilState {

@@ -115,11 +115,13 @@ called-motor {C} {A} {D} k meaning did asked d i x e c mine others num coils own
     record {
       number = num;
       motors = λ j. elim (either i j) [
-          inl same ↦ subst P same (ap (λ z. share-of (x .configuration .model) (motor-at (k .kind) (x .motors) i) (x .cycles) z) there ∙ own ∙ ap (lives k i (share (k .kind) meaning x i)) (sym mine))
-        | inr ne ↦ ap (λ z. share-of (x .configuration .model) (motor-at (k .kind) (x .motors) j) (x .cycles) z) (still j ne) ∙ ap (lives k j (share (k .kind) meaning x j)) (sym (others j ne)) ];
+        | inl same ↦ subst P same (ap (λ z. share-of (x .configuration .model) (motor-at (k .kind) (x .motors) i) (x .cycles) z) there ∙ own ∙ ap (lives k i (share (k .kind) meaning x i)) (sym mine))
+        | inr ne ↦ ap (λ z. share-of (x .configuration .model) (motor-at (k .kind) (x .motors) j) (x .cycles) z) (still j ne) ∙ ap (lives k j (share (k .kind) meaning x j)) (sym (others j ne))
+      ];
       points = λ j. elim (either i j) [
-          inl same ↦ subst Q same (ap (λ z. z .points) there ∙ points w v ∙ ap (points-after i (at (meaning (x .driver)) i) w v) (sym mine))
-        | inr ne ↦ ap (λ z. z .points) (still j ne) ∙ ap (points-after j (at (meaning (x .driver)) j) w v) (sym (others j ne)) ];
+        | inl same ↦ subst Q same (ap (λ z. z .points) there ∙ points w v ∙ ap (points-after i (at (meaning (x .driver)) i) w v) (sym mine))
+        | inr ne ↦ ap (λ z. z .points) (still j ne) ∙ ap (points-after j (at (meaning (x .driver)) j) w v) (sym (others j ne))
+      ];
       driver = chain;
       refused = no-refusal;
     }
@@ -131,20 +133,20 @@ called-report {C} {A} {D} k meaning did i n f x e is low coils c =
     let h : Share C A = share (k .kind) meaning x i in
     let b : Coil = at (meaning (x .driver)) i in
     subst P (sym is) (called-motor k meaning did (report (number i) f) (reports f) i x e (reported b f)
-      (own-deed i (reports f)) (λ j ne. other-deed i j (reports f) ne)
-      (ap (λ t. cond t (Ok tt) (Err UnknownFlags)) (sym low) ∙ sym (for-motor i (λ _. flags-answer f) (Err UnknownMotor)))
-      coils
-      (ap (λ t. share-of (h .config) (motor-at (k .kind) (x .motors) i) (h .cycles) (record { count = b .count; points = reported b f .points; flags = cond t (noted (b .flags) f) (b .flags) })) (sym low))
-      (λ w v. ap (λ t. cond t (cond (tripped (noted (b .flags) f)) 0 (b .points)) (b .points)) (sym low))
-      (subst (λ z. Chain did (x .driver) z e) (ap (λ t. cond t (on i (Note f) ∷ []) []) (sym low) ∙ sym (for-motor i (λ j. note-calls j f) [])) (e, (c, refl))))
+    (own-deed i (reports f)) (λ j ne. other-deed i j (reports f) ne)
+    (ap (λ t. cond t (Ok tt) (Err UnknownFlags)) (sym low) ∙ sym (for-motor i (λ _. flags-answer f) (Err UnknownMotor)))
+    coils
+    (ap (λ t. share-of (h .config) (motor-at (k .kind) (x .motors) i) (h .cycles) (record { count = b .count; points = reported b f .points; flags = cond t (noted (b .flags) f) (b .flags) })) (sym low))
+    (λ w v. ap (λ t. cond t (cond (tripped (noted (b .flags) f)) 0 (b .points)) (b .points)) (sym low))
+    (subst (λ z. Chain did (x .driver) z e) (ap (λ t. cond t (on i (Note f) ∷ []) []) (sym low) ∙ sym (for-motor i (λ j. note-calls j f) [])) (e, (c, refl))))
 
 pub called-acknowledge : {C A D : Type 0} (k : Rules C A) (meaning : D → Coils) (did : Did D) (i : CoilId) (n : ℕ) (x : Inner A D C) (e : D) → n ≡ number i →
     meaning e ≡ put (meaning (x .driver)) i (acknowledged (at (meaning (x .driver)) i)) → did (x .driver) (on i Clear) e → Called k meaning did Running (acknowledgement n) x (with-driver x e) (Ok tt)
 called-acknowledge {C} {A} {D} k meaning did i n x e is coils c =
     let P : ℕ → Type 0 = λ m. Called k meaning did Running (acknowledgement m) x (with-driver x e) (Ok tt) in
     subst P (sym is) (called-motor k meaning did (acknowledgement (number i)) acknowledges i x e (acknowledged (at (meaning (x .driver)) i))
-      (own-deed i acknowledges) (λ j ne. other-deed i j acknowledges ne) (sym (for-motor i (λ _. Ok tt) (Err UnknownMotor))) coils refl (λ w v. refl)
-      (subst (λ z. Chain did (x .driver) z e) (sym (for-motor i (λ j. on j Clear ∷ []) [])) (e, (c, refl))))
+    (own-deed i acknowledges) (λ j ne. other-deed i j acknowledges ne) (sym (for-motor i (λ _. Ok tt) (Err UnknownMotor))) coils refl (λ w v. refl)
+    (subst (λ z. Chain did (x .driver) z e) (sym (for-motor i (λ j. on j Clear ∷ []) [])) (e, (c, refl))))
 
 -- a call that leaves everything as it was
 untouched : {C A D : Type 0} (k : Rules C A) (meaning : D → Coils) (did : Did D) (stage : Stage) (asked : Asked) (x : Inner A D C) (r : Answer) →
@@ -181,13 +183,14 @@ pub report-flags : {C A D : Type 0} (k : Rules C A) (meaning : D → Coils) (did
 report-flags {C} {A} {D} k meaning did i n f x is high =
     let P : ℕ → Type 0 = λ m. Called k meaning did Running (report m f) x x (Err UnknownFlags) in
     subst P (sym is) (untouched k meaning did Running (report (number i) f) x (Err UnknownFlags)
-      (ap (λ t. cond t (Ok tt) (Err UnknownFlags)) (sym high) ∙ sym (for-motor i (λ _. flags-answer f) (Err UnknownMotor)))
-      (λ j. by (eqb (number i) (number j)) j) (λ j c w v. bare (eqb (number i) (number j)) j c w v)
-      (for-motor i (λ j. note-calls j f) [] ∙ ap (λ t. cond t (on i (Note f) ∷ []) []) high))
+    (ap (λ t. cond t (Ok tt) (Err UnknownFlags)) (sym high) ∙ sym (for-motor i (λ _. flags-answer f) (Err UnknownMotor)))
+    (λ j. by (eqb (number i) (number j)) j) (λ j c w v. bare (eqb (number i) (number j)) j c w v)
+    (for-motor i (λ j. note-calls j f) [] ∙ ap (λ t. cond t (on i (Note f) ∷ []) []) high))
   where
     by : (t : Bool) (j : CoilId) → lives k j (share (k .kind) meaning x j) (cond t (Some (reports f)) None) ≡ share (k .kind) meaning x j
     by true j = ap (λ t. with-flags (share (k .kind) meaning x j) (cond t (noted (share (k .kind) meaning x j .flags) f) (share (k .kind) meaning x j .flags))) high
     by false j = refl
+
     bare : (t : Bool) (j : CoilId) (c : Coil) (w v : ℕ) → points-after j c w v (cond t (Some (reports f)) None) ≡ c .points
     bare true j c w v = ap (λ t. cond t (cond (tripped (noted (c .flags) f)) 0 (c .points)) (c .points)) high
     bare false j c w v = refl
@@ -208,13 +211,13 @@ called-cycle {C} {A} {D} k meaning did x y z orders bytes room p q m s =
       number = ap (λ n. cond (eqb n 16) (Ok tt) (Err AnswerLength)) (sym q) ∙ ap (λ n. length-answer n room) (sym p);
       motors = λ i. now i ∙ ap (λ d. lives k i (share (k .kind) meaning x i) (Some d)) (sym (cycle-moves i orders room p q));
       points = λ i. s .points i
-        ∙ ap (λ v. granted i v (wanted (k .kind) (share (k .kind) meaning y Second))) (ap (wanted (k .kind)) (sym (s .motors First)))
-        ∙ ap (λ v. granted i (wanted (k .kind) (share (k .kind) meaning z First)) v) (ap (wanted (k .kind)) (sym (s .motors Second)))
-        ∙ ap (λ d. points-after i (at (meaning (x .driver)) i) (wanted (k .kind) (share (k .kind) meaning z First)) (wanted (k .kind) (share (k .kind) meaning z Second)) (Some d)) (sym (cycle-moves i orders room p q));
+          ∙ ap (λ v. granted i v (wanted (k .kind) (share (k .kind) meaning y Second))) (ap (wanted (k .kind)) (sym (s .motors First)))
+          ∙ ap (λ v. granted i (wanted (k .kind) (share (k .kind) meaning z First)) v) (ap (wanted (k .kind)) (sym (s .motors Second)))
+          ∙ ap (λ d. points-after i (at (meaning (x .driver)) i) (wanted (k .kind) (share (k .kind) meaning z First)) (wanted (k .kind) (share (k .kind) meaning z Second)) (Some d)) (sym (cycle-moves i orders room p q));
       driver = chain-join did (x .driver) (y .driver) (z .driver) (move-calls (k .kind) First h orders ++ move-calls (k .kind) Second g orders)
-        (feeds (wanted (k .kind) (share (k .kind) meaning y First)) (wanted (k .kind) (share (k .kind) meaning y Second)))
-        (calls k h g (cycle orders room)) (m .driver) (s .driver)
-        (ap (λ v. (move-calls (k .kind) First h orders ++ move-calls (k .kind) Second g orders) ++ feeds v (wanted (k .kind) (share (k .kind) meaning y Second))) (w First)
+          (feeds (wanted (k .kind) (share (k .kind) meaning y First)) (wanted (k .kind) (share (k .kind) meaning y Second)))
+          (calls k h g (cycle orders room)) (m .driver) (s .driver)
+          (ap (λ v. (move-calls (k .kind) First h orders ++ move-calls (k .kind) Second g orders) ++ feeds v (wanted (k .kind) (share (k .kind) meaning y Second))) (w First)
           ∙ ap (λ v. (move-calls (k .kind) First h orders ++ move-calls (k .kind) Second g orders) ++ feeds (wanted (k .kind) (moved-share (k .kind) First h (half First orders))) v) (w Second)
           ∙ ap (λ n. cond (eqb n 16) (cycle-calls k h g orders) []) (sym q) ∙ ap (λ n. cond (eqb n 16) (cond (eqb room 16) (cycle-calls k h g orders) []) []) (sym p));
       refused = no-refusal;
@@ -293,6 +296,7 @@ closed {C} {A} k stage r i h v e = so (concerns i (r .setting))
   where
     still : h ≡ set-share k stage (Some r) h v
     still = same-share h (set-share k stage (Some r) h v) (ap (λ t. cond t (configured k (r .setting) (h .config) v) (h .config)) (sym e)) refl (ap (λ t. cond t (adjusted (r .setting) (powered k h) (h .currents) v) (h .currents)) (sym e)) refl refl refl refl
+
     so : (t : Bool) → h ≡ cond t (set-share k stage (Some r) h v) h
     so true = still
     so false = refl
@@ -319,7 +323,7 @@ set-config {C} {A} {D} k meaning did stage n v x y a r e is opens num after =
     called-set k meaning did stage n v x y a (Some (record { setting = Configuration; opened = r .opened })) (found-as (look-up (k .lines) n) r Configuration e is)
     (num ∙ ap (λ t. cond t (in-range (k .kind .config v) (Ok tt)) (Err Closed)) (sym opens))
     (λ i. ap (λ z. share (k .kind) meaning z i) after ∙ same-share (share (k .kind) meaning (with-config x config) i) (set-share (k .kind) stage (Some (record { setting = Configuration; opened = r .opened })) (share (k .kind) meaning x i) v)
-      (ap (λ t. cond t config (x .configuration .model)) (sym opens)) refl (sym (either-way (is-open (r .opened) stage) (share (k .kind) meaning x i .currents))) refl refl refl refl)
+    (ap (λ t. cond t config (x .configuration .model)) (sym opens)) refl (sym (either-way (is-open (r .opened) stage) (share (k .kind) meaning x i .currents))) refl refl refl refl)
     (ap (λ z. z .driver) after) (refused (k .kind .config v) num after)
   where
     refused : (o : Option C) → a ≡ in-range o (Ok tt) → y ≡ with-config x (valueOr o (x .configuration .model)) → isErr a ≡ true → y ≡ x
@@ -339,9 +343,10 @@ set-motor-current {C} {A} {D} k meaning did stage n v x y a r i which e is opens
     whose : (i : CoilId) → share (k .kind) meaning x i ≡ set-motor (Current i which) (share (k .kind) meaning x First) (share (k .kind) meaning x Second)
     whose First = refl
     whose Second = refl
+
     so : (j : CoilId) (h : Share C A) (b : Bool) → with-currents h (cond b (adjusted (Current i which) (powered (k .kind) h) (h .currents) v) (h .currents)) ≡ cond b (set-share (k .kind) stage (Some (record { setting = Current i which; opened = r .opened })) h v) h
     so j h true = same-share (with-currents h (adjusted (Current i which) (powered (k .kind) h) (h .currents) v)) (set-share (k .kind) stage (Some (record { setting = Current i which; opened = r .opened })) h v)
-      (sym (either-way (is-open (r .opened) stage) (h .config))) refl (ap (λ b. cond b (adjusted (Current i which) (powered (k .kind) h) (h .currents) v) (h .currents)) (sym opens)) refl refl refl refl
+        (sym (either-way (is-open (r .opened) stage) (h .config))) refl (ap (λ b. cond b (adjusted (Current i which) (powered (k .kind) h) (h .currents) v) (h .currents)) (sym opens)) refl refl refl refl
     so j h false = refl
 
 -- the same, where the value came through its bits

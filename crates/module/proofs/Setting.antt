@@ -68,14 +68,14 @@ set-current {C} {A} {D} k meaning i which v n p x m d e b pe h axis currents fau
     let there = motor-there k (x .motors) i p d pe h in
     let put = motor-put k (x .motors) i p m pe h in
     let own : share k meaning y i ≡ with-currents (share k meaning x i) (adjusted (Current i which) (powered k (share k meaning x i)) (share k meaning x i .currents) v) =
-      same-share (share k meaning y i) (with-currents (share k meaning x i) (adjusted (Current i which) (powered k (share k meaning x i)) (share k meaning x i .currents) v))
-      refl (ap (λ z. z .axis) put ∙ axis ∙ ap (λ z. z .axis) there)
-      (ap (λ z. levels (z .currents)) put ∙ currents ∙ ap (λ z. with-level (levels (z .currents)) which n) there
-        ∙ ap (λ o. with-points (share k meaning x i .currents) which o) (sym e)
-        ∙ ap (λ t. cond t (share k meaning x i .currents) (with-points (share k meaning x i .currents) which (points-from v))) (sym b))
-      (ap (λ z. z .fault) put ∙ fault ∙ ap (λ z. z .fault) there) refl refl refl in
+    same-share (share k meaning y i) (with-currents (share k meaning x i) (adjusted (Current i which) (powered k (share k meaning x i)) (share k meaning x i .currents) v))
+    refl (ap (λ z. z .axis) put ∙ axis ∙ ap (λ z. z .axis) there)
+    (ap (λ z. levels (z .currents)) put ∙ currents ∙ ap (λ z. with-level (levels (z .currents)) which n) there
+    ∙ ap (λ o. with-points (share k meaning x i .currents) which o) (sym e)
+    ∙ ap (λ t. cond t (share k meaning x i .currents) (with-points (share k meaning x i .currents) which (points-from v))) (sym b))
+    (ap (λ z. z .fault) put ∙ fault ∙ ap (λ z. z .fault) there) refl refl refl in
     let other : (j : CoilId) → (i ≡ j → ⊥) → share k meaning y j ≡ share k meaning x j =
-      λ j ne. ap (λ z. share-of (x .configuration .model) z (x .cycles) (at (meaning (x .driver)) j)) (ap (λ q. motor-at k (set (x .motors) q m) j) pe ∙ other-motor k i j (x .motors) m ne) in
+    λ j ne. ap (λ z. share-of (x .configuration .model) z (x .cycles) (at (meaning (x .driver)) j)) (ap (λ q. motor-at k (set (x .motors) q m) j) pe ∙ other-motor k i j (x .motors) m ne) in
     record {
       number = ap (λ t. cond t (Err MotorPowered) (Ok tt)) (sym b) ∙ ap (λ o. in-range o (cond (powered k (share k meaning x i)) (Err MotorPowered) (Ok tt))) (sym e);
       motors = λ j. by i j y own other;

@@ -43,9 +43,13 @@ at-put c Second x = refl
 -- the share after a turn, whose cycle has its number already
 abbrev turned-share : {C A : Type 0} → Kind C A → CoilId → Share C A → List ℕ → Share C A
 turned-share k i h orders = record {
-  config = h .config; axis = outcome k h orders .axis; currents = h .currents;
+  config = h .config;
+  axis = outcome k h orders .axis;
+  currents = h .currents;
   fault = latest i (h .cycles) (outcome k h orders .ending) (h .fault);
-  cycles = h .cycles; count = outcome k h orders .count; flags = outcome k h orders .flags;
+  cycles = h .cycles;
+  count = outcome k h orders .count;
+  flags = outcome k h orders .flags;
 }
 
 pub own-share : {C A D : Type 0} (k : Kind C A) (meaning : D → Coils) (did : Did D) (i : CoilId) (x y : Inner A D C) (orders bytes : List ℕ) →
@@ -105,18 +109,18 @@ both-moved {C} {A} {D} k meaning did x y z orders a b bytes law t u e f =
     let apart′ : Second ≡ First → ⊥ = λ q. apart (sym q) in
     let still : share k meaning y Second ≡ share k meaning (numbered x) Second = other-share k meaning did First Second (numbered x) y (half First orders) a t apart in
     let one : share k meaning z First ≡ moved-share k First (share k meaning x First) (half First orders) =
-      other-share k meaning did Second First y z (half Second orders) b u apart′ ∙ own-share k meaning did First (numbered x) y (half First orders) a t in
+    other-share k meaning did Second First y z (half Second orders) b u apart′ ∙ own-share k meaning did First (numbered x) y (half First orders) a t in
     let two : share k meaning z Second ≡ moved-share k Second (share k meaning x Second) (half Second orders) =
-      own-share k meaning did Second y z (half Second orders) b u ∙ ap (λ h. turned-share k Second h (half Second orders)) still in
+    own-share k meaning did Second y z (half Second orders) b u ∙ ap (λ h. turned-share k Second h (half Second orders)) still in
     let motors : (i : CoilId) → share k meaning z i ≡ moved-share k i (share k meaning x i) (half i orders) = λ i. elim i as (λ i. share k meaning z i ≡ moved-share k i (share k meaning x i) (half i orders)) [ First ↦ one | Second ↦ two ] in
     record {
       motors = motors;
       points = λ i. points-turn k meaning did Second i y z (half Second orders) b u ∙ points-turn k meaning did First i (numbered x) y (half First orders) a t;
       driver = chain-join did (x .driver) (y .driver) (z .driver) (move-calls k First (share k meaning x First) orders) (move-calls k Second (share k meaning y Second) orders)
-        (move-calls k First (share k meaning x First) orders ++ move-calls k Second (share k meaning x Second) orders) (t .turned .calls) (u .turned .calls)
-        (ap (λ h. move-calls k First (share k meaning x First) orders ++ move-calls k Second h orders) still);
+          (move-calls k First (share k meaning x First) orders ++ move-calls k Second (share k meaning x Second) orders) (t .turned .calls) (u .turned .calls)
+          (ap (λ h. move-calls k First (share k meaning x First) orders ++ move-calls k Second h orders) still);
       halves = λ i. elim i as (λ i. half i bytes ≡ outcome k (share k meaning x i) (half i orders) .answer)
-        [ First ↦ e ∙ t .turned .answered | Second ↦ f ∙ u .turned .answered ∙ ap (λ h. outcome k h (half Second orders) .answer) still ];
+          [ First ↦ e ∙ t .turned .answered | Second ↦ f ∙ u .turned .answered ∙ ap (λ h. outcome k h (half Second orders) .answer) still ];
       rested = λ i. rested-share k meaning i (share k meaning x i) z (half i orders) law (motors i);
     }
 

@@ -12,14 +12,20 @@ use Rattle.coil.specs.declared.CoilId.the-variants.{First, Second}
 use Rattle.axis.specs.Kinds.{Kind, seen}
 use Rattle.axis.specs.declared.currents.Current.the-variants.{Off}
 use Rattle.axis.specs.declared.currents.CurrentSetting.{CurrentSetting}
-use Rattle.module.specs.Effects.{Answer, Asked, adjusted-share, answer, calls, deed, feeds, half, lives, move-calls, moved-share, outcome, points-after, value-answer}
+use Rattle.module.specs.Effects.{Answer, Asked, adjusted-share, answer, calls, deed, feeds, first-calls, half, lives, move-calls, moved-share, outcome, points-after, value-answer}
 use Rattle.module.specs.Motors.{Turned}
-use Rattle.module.specs.Share.{Rules, motor-at, place, powered, share, wanted}
+use Rattle.module.specs.Share.{Rules, born, motor-at, place, powered, share, wanted}
 use Rattle.module.specs.declared.inner.Inner.{Inner}
 use Rattle.registers.specs.declared.Setting.the-variants.{Current}
 use Rattle.registers.specs.declared.Stage.{Stage}
 use Rattle.std.specs.Results.{isErr, isOk}
 use Rattle.supply.specs.Shares.{granted}
+
+-- a module as it is made over the driver d: every motor as it begins, and both coils fed 0 points
+pub record Made {C A D : Type 0} (k : Kind C A) (meaning : D → Coils) (did : Did D) (d : D) (x : Inner A D C) : Type 0 where
+  pub motors : (i : CoilId) → share k meaning x i ≡ born k (at (meaning d) i)
+  pub points : (i : CoilId) → at (meaning (x .driver)) i .points ≡ 0
+  pub driver : Chain did d first-calls (x .driver)
 
 -- after a cycle's moves a motor on a tripped coil chooses no current
 abbrev pub Rested : {C A D : Type 0} → Kind C A → (D → Coils) → Inner A D C → CoilId → Type 0

@@ -118,7 +118,10 @@ set-share k stage found h v = record {
   config = config-after k stage found (h .config) v;
   axis = h .axis;
   currents = currents-after stage found (powered k h) (h .currents) v;
-  fault = h .fault; cycles = h .cycles; count = h .count; flags = h .flags;
+  fault = h .fault;
+  cycles = h .cycles;
+  count = h .count;
+  flags = h .flags;
 }
 
 -- what the kind of axis makes of a motor's eight bytes
@@ -152,11 +155,21 @@ after k i h starts = h
 after k i h (moves orders) = moved-share (k .kind) i h orders
 after k i h (misses n m) = h
 after k i h (reports f) = record {
-  config = h .config; axis = h .axis; currents = h .currents; fault = h .fault; cycles = h .cycles; count = h .count;
+  config = h .config;
+  axis = h .axis;
+  currents = h .currents;
+  fault = h .fault;
+  cycles = h .cycles;
+  count = h .count;
   flags = cond (ltb f 16) (noted (h .flags) f) (h .flags);
 }
 after k i h acknowledges = record {
-  config = h .config; axis = h .axis; currents = h .currents; fault = h .fault; cycles = h .cycles; count = h .count;
+  config = h .config;
+  axis = h .axis;
+  currents = h .currents;
+  fault = h .fault;
+  cycles = h .cycles;
+  count = h .count;
   flags = cleared (h .flags);
 }
 

@@ -5,10 +5,10 @@ ghost use Rattle.module.specs.Called.{Called, Filled};
 ghost use Rattle.module.specs.Effects.{acknowledgement, cycle, report, setting};
 ghost use Rattle.module.specs.Share.{rules};
 ghost use Rattle.registers.specs.declared.Stage.the-variants.{Running};
-use axis::Axis;
-use coil::CoilDriver;
 use crate::inner::Inner;
 use crate::steps::coil_of;
+use axis::Axis;
+use coil::CoilDriver;
 use refusal::Refusal;
 use registers::Model;
 use registers::Setting;
@@ -49,12 +49,7 @@ impl<A: Model, D: CoilDriver> Inner<A, D> {
         Ok(())
     }
 
-    pub(crate) fn setting(
-        &mut self,
-        stage: Stage,
-        register: u16,
-        value: i32,
-    ) -> Result<(), Refusal>
+    pub(crate) fn setting(&mut self, stage: Stage, register: u16, value: i32) -> Result<(), Refusal>
         ensures { λ r. ⌜ Called (rules (A·Axis .kind) (A·Model .lines)) (D·CoilDriver .meaning) (D·CoilDriver .did) stage (setting register value) (now (self .entry)) (now (self .exit)) r ⌝ }
     {
         let found = A::register(register).ok_or(Refusal::UnknownRegister)?;

@@ -1,6 +1,6 @@
 // What a module keeps, at either stage.
-use axis::Axis;
 use crate::motor::Motor;
+use axis::Axis;
 use supply::Supply;
 
 // Settings of the whole module; those of the function model are one part of them.

@@ -9,13 +9,13 @@ ghost use Rattle.module.specs.Motors.{Turned};
 ghost use Rattle.std.specs.declared.option.Option.the-variants.{None};
 use axis::Axis;
 use axis::AxisFault;
+use axis::AxisFaultDebug;
+use axis::AxisFaultPartialEq;
 use axis::CurrentSetting;
 use axis::Currents;
 use axis::Points;
 use coil::CoilDriver;
 use coil::CoilId;
-use axis::AxisFaultDebug;
-use axis::AxisFaultPartialEq;
 use coil::CoilIdDebug;
 use coil::CoilIdPartialEq;
 
@@ -27,7 +27,7 @@ pub struct Fault {
     pub cause: AxisFault,
 }
 
-#[derive(Drop)]
+#[derive(Clone, Copy)]
 pub struct Motor<A> {
     pub(crate) axis: A,
     pub(crate) currents: Currents,

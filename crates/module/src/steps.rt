@@ -4,22 +4,25 @@ ghost use Prim.Native.Nat.{_<_};
 ghost use lib.ListN.{length};
 ghost use Rattle.coil.specs.declared.CoilId.{CoilId};
 ghost use Rattle.coil.specs.declared.CoilId.the-variants.{First, Second};
-ghost use Rattle.module.specs.Called.{Adjusted, Moved, Rested, Shared, Turn};
+ghost use Rattle.module.specs.Called.{Adjusted, Made, Moved, Rested, Shared, Turn};
 ghost use Rattle.module.specs.Effects.{in-range, of-motor, with-config};
 ghost use Rattle.module.specs.Share.{place as place-of};
 ghost use Rattle.std.specs.Options.{valueOr};
 ghost use Rattle.std.specs.declared.result.Result.the-variants.{Ok};
+use crate::inner::Configuration;
+use crate::inner::Inner;
+use crate::motor::Motor;
 use axis::Axis;
 use axis::CurrentSetting;
 use axis::Points;
 use coil::CoilDriver;
 use coil::CoilId;
-use crate::inner::Inner;
 use refusal::Refusal;
 use registers::Model;
+use supply::Supply;
 
 // The place of a motor in the table of two.
-fn place(coil: CoilId) -> usize
+pub(crate) fn place(coil: CoilId) -> usize
     ensures value { λ r. ⌜ r ≡ place-of coil ⌝ }
     ensures within { λ r. ⌜ r < 2 ⌝ }
 {
@@ -30,6 +33,38 @@ fn place(coil: CoilId) -> usize
 }
 
 impl<A: Axis, D: CoilDriver> Inner<A, D> {
+    // Both motors as they begin, and 0 points fed to both coils.
+    pub(crate) fn new(driver: D) -> Inner<A, D>
+        ensures { λ r. ⌜ Made (A·Axis .kind) (D·CoilDriver .meaning) (D·CoilDriver .did) driver r ⌝ }
+    {
+        let mut driver = driver;
+        let _ = driver.feed(CoilId::First, 0);
+        let _ = driver.feed(CoilId::Second, 0);
+        Inner {
+            configuration: Configuration {
+                model: A::first_config(),
+            },
+            motors: [Motor::new(), Motor::new()],
+            cycles: 0,
+            supply: Supply::new(),
+            driver,
+        }
+    }
+
+    // Lets all go but the driver.
+    pub(crate) fn end(self) -> D
+        ensures { λ r. ⌜ r ≡ self .driver ⌝ }
+    {
+        let Inner {
+            configuration: _configuration,
+            motors: _,
+            cycles: _cycles,
+            supply: _supply,
+            driver,
+        } = self;
+        driver
+    }
+
     // One motor's part of a cycle.
     fn turn(&mut self, coil: CoilId, orders: &[u8], answer: &mut [u8])
         requires { ⌜ length (now orders) ≡ 8 ⌝ ∗ ⌜ length (now answer) ≡ 8 ⌝ }
@@ -37,7 +72,8 @@ impl<A: Axis, D: CoilDriver> Inner<A, D> {
     {
         let config = self.configuration.model;
         let cycle = self.cycles;
-        self.motors[place(coil)].cycle(config, &mut self.driver, coil, cycle, orders, answer);
+        self.motors[place(coil)]
+            .cycle(config, &mut self.driver, coil, cycle, orders, answer);
     }
 
     // Both motors move, motor 1 first, and the cycle gets its number.

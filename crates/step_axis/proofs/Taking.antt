@@ -168,17 +168,17 @@ took-append meaning did i s ws vs d e g p q =
     let mid : at (meaning e) i ≡ with-count c n = ap (λ m. at m i) (p .coils) ∙ at-put (meaning d) i (with-count c n) in
     let same : at (meaning e) i .flags ≡ c .flags = ap (λ x. x .flags) mid in
     let total : pos (c .count) +ℤ steps-taken (c .flags) ws *ℤ pos s +ℤ steps-taken (c .flags) vs *ℤ pos s ≡ pos (c .count) +ℤ steps-taken (c .flags) (ws ++ vs) *ℤ pos s =
-      omega (arith, ints, scaled-sum (steps-taken (c .flags) ws) (steps-taken (c .flags) vs) s, ap (λ z. z *ℤ pos s) (steps-append (c .flags) ws vs)) in
+    omega (arith, ints, scaled-sum (steps-taken (c .flags) ws) (steps-taken (c .flags) vs) s, ap (λ z. z *ℤ pos s) (steps-append (c .flags) ws vs)) in
     let counts : count-after n (c .flags) s vs ≡ count-after (c .count) (c .flags) s (ws ++ vs) =
-      modulo-onto (2 ^ 32) (pos (c .count) +ℤ steps-taken (c .flags) ws *ℤ pos s) (steps-taken (c .flags) vs *ℤ pos s) (lit< tt) ∙ ap (modulo (2 ^ 32)) total in
+    modulo-onto (2 ^ 32) (pos (c .count) +ℤ steps-taken (c .flags) ws *ℤ pos s) (steps-taken (c .flags) vs *ℤ pos s) (lit< tt) ∙ ap (modulo (2 ^ 32)) total in
     record {
       coils = q .coils
-        ∙ ap (λ x. put (meaning e) i (with-count x (count-after (x .count) (x .flags) s vs))) mid
-        ∙ ap (λ m. put m i (with-count c (count-after n (c .flags) s vs))) (p .coils)
-        ∙ put-put (meaning d) i (with-count c n) (with-count c (count-after n (c .flags) s vs))
-        ∙ ap (λ x. put (meaning d) i (with-count c x)) counts;
+          ∙ ap (λ x. put (meaning e) i (with-count x (count-after (x .count) (x .flags) s vs))) mid
+          ∙ ap (λ m. put m i (with-count c (count-after n (c .flags) s vs))) (p .coils)
+          ∙ put-put (meaning d) i (with-count c n) (with-count c (count-after n (c .flags) s vs))
+          ∙ ap (λ x. put (meaning d) i (with-count c x)) counts;
       calls = chain-join did d e g (map (on i) (advances (c .flags) s ws)) (map (on i) (advances (at (meaning e) i .flags) s vs)) (map (on i) (advances (c .flags) s (ws ++ vs))) (p .calls) (q .calls)
-        (ap (λ f. map (on i) (advances (c .flags) s ws) ++ map (on i) (advances f s vs)) same ∙ sym (map-append (on i) (advances (c .flags) s ws) (advances (c .flags) s vs)) ∙ ap (map (on i)) (sym (advances-append (c .flags) s ws vs)));
+          (ap (λ f. map (on i) (advances (c .flags) s ws) ++ map (on i) (advances f s vs)) same ∙ sym (map-append (on i) (advances (c .flags) s ws) (advances (c .flags) s vs)) ∙ ap (map (on i)) (sym (advances-append (c .flags) s ws vs)));
     }
 
 pub word-there : (b : List ℕ) (n : ℕ) → n < 4 → getD (words b) n 0 ≡ word b n
@@ -282,8 +282,7 @@ so-declined {D} meaning did i s b d e g n m w sum t h k is c p q r =
     let first : e ≡ d = subst (λ cs. Chain did d (map (on i) cs) e) (no-calls-tripped f s (take n (words b)) trip) (p .took .calls) in
     let second : g ≡ e = subst (λ cs. Chain did e (map (on i) cs) g) (ap (λ x. advances x s (w ∷ [])) same ∙ no-calls-tripped f s (w ∷ []) trip) (q .calls) in
     let P : D → Type 0 = λ x. Took meaning did i s ws d x in
-    let there : declined f ws ≡ true = declined-at f (words b) n m h k (ap (λ x. declined f (x ∷ [])) (word-there b n k ∙ sym is) ∙ err .0) in
-    (
+    let there : declined f ws ≡ true = declined-at f (words b) n m h k (ap (λ x. declined f (x ∷ [])) (word-there b n k ∙ sym is) ∙ err .0) in (
       subst P (sym (second ∙ first)) (took-nothing meaning did i s ws d c (none-tripped f ws trip) (no-calls-tripped f s ws trip)),
       p .total ∙ none-tripped f (take n (words b)) trip ∙ sym (none-tripped f ws trip),
       ap Err (err .1) ∙ ap (λ x. cond x (Err (fault.Coil (Tripped f))) (Ok tt)) (sym there),
@@ -294,8 +293,7 @@ pub so-all : {D : Type 0} (meaning : D → Coils) (did : Did D) (i : CoilId) (s 
     Took meaning did i s (take m (words b)) d e × (sum ≡ steps-taken (at (meaning d) i .flags) (take m (words b))) × (Ok tt ≡ ending (at (meaning d) i .flags) (take m (words b)))
 so-all {D} meaning did i s b d e n m sum same p =
     let P : ℕ → Type 0 = λ k. Took meaning did i s (take k (words b)) d e in
-    let f : ℕ = at (meaning d) i .flags in
-    (
+    let f : ℕ = at (meaning d) i .flags in (
       subst P same (p .took),
       p .total ∙ ap (λ k. steps-taken f (take k (words b))) same,
       ap (λ t. cond t (Err (fault.Coil (Tripped f))) (Ok tt)) (sym (p .none)) ∙ ap (λ k. ending f (take k (words b))) same,

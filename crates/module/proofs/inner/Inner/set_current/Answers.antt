@@ -20,7 +20,7 @@ returns-then-is-powered g c =
     let e : points-from (c .args .value) ≡ Some (c .in-Continue-points .points .value) = search needs in
     let h : c .place-at .result < length (c .args .self .now .motors) = search needs in
     let p : powered (g .A·Axis .kind) (share (g .A·Axis .kind) (g .D·CoilDriver .meaning) (c .args .self .now) (c .args .coil)) ≡ true =
-      powered-there (g .A·Axis .kind) (c .args .self .now .motors) (c .args .coil) (c .place-at .result) (c .index-self-at .result) (c .is-powered .result) true (c .place-at .ensures .value) h (c .is-powered .ensures) (c .if-is-powered .taken) in
+    powered-there (g .A·Axis .kind) (c .args .self .now .motors) (c .args .coil) (c .place-at .result) (c .index-self-at .result) (c .is-powered .result) true (c .place-at .ensures .value) h (c .is-powered .ensures) (c .if-is-powered .taken) in
     still-powered (g .A·Axis .kind) (g .D·CoilDriver .meaning) (c .args .coil) (c .args .which) (c .args .value) (c .in-Continue-points .points .value) (c .args .self .now) e p
 
 pub returns : need.returns
@@ -28,6 +28,6 @@ returns g c =
     let e : points-from (c .args .value) ≡ Some (c .in-Continue-points .points .value) = search needs in
     let h : c .place-at .result < length (c .args .self .now .motors) = search needs in
     let p : powered (g .A·Axis .kind) (share (g .A·Axis .kind) (g .D·CoilDriver .meaning) (c .args .self .now) (c .args .coil)) ≡ false =
-      powered-there (g .A·Axis .kind) (c .args .self .now .motors) (c .args .coil) (c .place-at .result) (c .index-self-at .result) (c .is-powered .result) false (c .place-at .ensures .value) h (c .is-powered .ensures) (c .if-is-powered .left) in
+    powered-there (g .A·Axis .kind) (c .args .self .now .motors) (c .args .coil) (c .place-at .result) (c .index-self-at .result) (c .is-powered .result) false (c .place-at .ensures .value) h (c .is-powered .ensures) (c .if-is-powered .left) in
     set-current (g .A·Axis .kind) (g .D·CoilDriver .meaning) (c .args .coil) (c .args .which) (c .args .value) (c .in-Continue-points .points .value) (c .place-at .result) (c .args .self .now) (c .set .last .self) _ e p
     (c .place-at .ensures .value) h (c .set .ensures .axis) (c .set .ensures .currents) (c .set .ensures .fault)
