@@ -1,8 +1,7 @@
 -- Flags stay below 16, and clearing them trips no coil.
-use Prim.Native.Nat.{ℕ, zero, suc, _<_, _≤_}
+use Prim.Native.Nat.{ℕ, zero, suc, _<_}
 use lib.Bits.{bitAnd, bitOr, and-le-r, or-lt}
-use lib.Dec.{eqb}
-use mathlib.Core.Bool.{Bool, true, false, cond, _&&_}
+use mathlib.Core.Bool.{Bool, true, false, cond, _||_}
 use mathlib.Core.Logic.{_⊎_, inl, inr, ⊎-elim}
 use mathlib.Core.Path.{_≡_, refl, ap, sym, _∙_}
 use native.Mathlib.Omega.{arith}
@@ -43,3 +42,20 @@ cleared-below f = omega (arith, and-le-r f 2)
 pub noted-below : (f g : ℕ) → noted f g < 16
 unfolding noted
 noted-below f g = or-lt 4 (bitAnd f 13) (bitAnd g 15) (omega (arith, and-le-r f 13)) (omega (arith, and-le-r g 15))
+
+-- a report without overtemperature and overcurrent trips no coil
+stays-untripped : ℕ → ℕ → Bool
+stays-untripped f g = cond (tripped (noted f g)) (tripped f || tripped g) true
+
+all-untripped : every (λ f. every (stays-untripped f) 16) 16 ≡ true
+unfolding stays-untripped tripped noted
+all-untripped = refl
+
+pub noted-tripped : (f g : ℕ) → f < 16 → g < 16 → tripped (noted f g) ≡ true → tripped g ≡ false → tripped f ≡ true
+unfolding stays-untripped
+noted-tripped f g a b e low =
+    sym (by (tripped f)) ∙ sym (ap (λ t. tripped f || t) low) ∙ sym (ap (λ t. cond t (tripped f || tripped g) true) e) ∙ every-at (stays-untripped f) 16 g (every-at (λ x. every (stays-untripped x) 16) 16 f all-untripped a) b
+  where
+    by : (t : Bool) → t || false ≡ t
+    by true = refl
+    by false = refl

@@ -1,3 +1,3 @@
 pub mod Wraps
 pub mod Chained
-mod Flags
+pub mod Flags

@@ -98,7 +98,7 @@ at-put-other c Second Second x ne = absurd (ne refl)
 
 -- a deed d to the motor i alone, that leaves it the coil c
 called-motor : {C A D : Type 0} (k : Rules C A) (meaning : D → Coils) (did : Did D) (asked : Asked) (d : Deed) (i : CoilId) (x : Inner A D C) (e : D) (c : Coil) →
-    deed k Running i asked ≡ Some d → ((j : CoilId) → (i ≡ j → ⊥) → deed k Running j asked ≡ None) →
+    deed (k .lines) Running i asked ≡ Some d → ((j : CoilId) → (i ≡ j → ⊥) → deed (k .lines) Running j asked ≡ None) →
     Ok tt ≡ answer k Running (share (k .kind) meaning x First) (share (k .kind) meaning x Second) asked →
     meaning e ≡ put (meaning (x .driver)) i c → share-of (x .configuration .model) (motor-at (k .kind) (x .motors) i) (x .cycles) c ≡ after k i (share (k .kind) meaning x i) d →
     ((w v : ℕ) → c .points ≡ points-after i (at (meaning (x .driver)) i) w v (Some d)) →
@@ -107,10 +107,10 @@ called-motor : {C A D : Type 0} (k : Rules C A) (meaning : D → Coils) (did : D
 called-motor {C} {A} {D} k meaning did asked d i x e c mine others num coils own points chain =
     let y : Inner A D C = with-driver x e in
     let there : at (meaning e) i ≡ c = ap (λ z. at z i) coils ∙ at-put (meaning (x .driver)) i c in
-    let P : CoilId → Type 0 = λ j. share (k .kind) meaning y j ≡ lives k j (share (k .kind) meaning x j) (deed k Running j asked) in
+    let P : CoilId → Type 0 = λ j. share (k .kind) meaning y j ≡ lives k j (share (k .kind) meaning x j) (deed (k .lines) Running j asked) in
     let w : ℕ = wanted (k .kind) (share (k .kind) meaning y First) in
     let v : ℕ = wanted (k .kind) (share (k .kind) meaning y Second) in
-    let Q : CoilId → Type 0 = λ j. at (meaning e) j .points ≡ points-after j (at (meaning (x .driver)) j) w v (deed k Running j asked) in
+    let Q : CoilId → Type 0 = λ j. at (meaning e) j .points ≡ points-after j (at (meaning (x .driver)) j) w v (deed (k .lines) Running j asked) in
     let still : (j : CoilId) → (i ≡ j → ⊥) → at (meaning e) j ≡ at (meaning (x .driver)) j = λ j ne. ap (λ z. at z j) coils ∙ at-put-other (meaning (x .driver)) i j c ne in
     record {
       number = num;
@@ -151,8 +151,8 @@ called-acknowledge {C} {A} {D} k meaning did i n x e is coils c =
 -- a call that leaves everything as it was
 untouched : {C A D : Type 0} (k : Rules C A) (meaning : D → Coils) (did : Did D) (stage : Stage) (asked : Asked) (x : Inner A D C) (r : Answer) →
     r ≡ answer k stage (share (k .kind) meaning x First) (share (k .kind) meaning x Second) asked →
-    ((i : CoilId) → lives k i (share (k .kind) meaning x i) (deed k stage i asked) ≡ share (k .kind) meaning x i) →
-    ((i : CoilId) (c : Coil) (w v : ℕ) → points-after i c w v (deed k stage i asked) ≡ c .points) →
+    ((i : CoilId) → lives k i (share (k .kind) meaning x i) (deed (k .lines) stage i asked) ≡ share (k .kind) meaning x i) →
+    ((i : CoilId) (c : Coil) (w v : ℕ) → points-after i c w v (deed (k .lines) stage i asked) ≡ c .points) →
     calls k (share (k .kind) meaning x First) (share (k .kind) meaning x Second) asked ≡ [] → Called k meaning did stage asked x x r
 untouched k meaning did stage asked x r num motors points none = record {
   number = num;

@@ -1,5 +1,5 @@
 mod Calling
-mod Cuts
+pub mod Cuts
 mod Feeding
 mod Setting
 mod Table

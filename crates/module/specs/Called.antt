@@ -64,9 +64,9 @@ pub record Called {C A D : Type 0} (k : Rules C A) (meaning : D → Coils) (did 
   -- the number
   pub number : r ≡ answer k stage (share (k .kind) meaning x First) (share (k .kind) meaning x Second) asked
   -- each motor's share, by what the call does to that motor
-  pub motors : (i : CoilId) → share (k .kind) meaning y i ≡ lives k i (share (k .kind) meaning x i) (deed k stage i asked)
+  pub motors : (i : CoilId) → share (k .kind) meaning y i ≡ lives k i (share (k .kind) meaning x i) (deed (k .lines) stage i asked)
   -- each coil's points
-  pub points : (i : CoilId) → at (meaning (y .driver)) i .points ≡ points-after i (at (meaning (x .driver)) i) (wanted (k .kind) (share (k .kind) meaning y First)) (wanted (k .kind) (share (k .kind) meaning y Second)) (deed k stage i asked)
+  pub points : (i : CoilId) → at (meaning (y .driver)) i .points ≡ points-after i (at (meaning (x .driver)) i) (wanted (k .kind) (share (k .kind) meaning y First)) (wanted (k .kind) (share (k .kind) meaning y Second)) (deed (k .lines) stage i asked)
   -- the driver calls, in order, and no other
   pub driver : Chain did (x .driver) (calls k (share (k .kind) meaning x First) (share (k .kind) meaning x Second) asked) (y .driver)
   -- a refusal leaves the whole module as it was

@@ -20,7 +20,7 @@ use Rattle.module.specs.Share.{Rules, Share, powered, share, sight, wanted}
 use Rattle.module.specs.declared.inner.Inner.{Inner}
 use Rattle.refusal.specs.declared.Refusal.{Refusal}
 use Rattle.refusal.specs.declared.Refusal.the-variants.{UnknownRegister, Closed, OutOfRange, MotorPowered, RecordLength, AnswerLength, UnknownMotor, UnknownFlags}
-use Rattle.registers.specs.Tables.{is-open, look-up}
+use Rattle.registers.specs.Tables.{Line, is-open, look-up}
 use Rattle.registers.specs.declared.Register.{Register}
 use Rattle.registers.specs.declared.Setting.{Setting}
 use Rattle.registers.specs.declared.Setting.the-variants.{Configuration, Current}
@@ -211,11 +211,11 @@ number Second = 2
 abbrev pub motor-deed : CoilId → ℕ → Deed → Option Deed
 motor-deed i n d = cond (eqb n (number i)) (Some d) None
 
-abbrev pub deed : {C A : Type 0} → Rules C A → Stage → CoilId → Asked → Option Deed
-deed k stage i (setting n v) = set-deed i stage (look-up (k .lines) n) n v
-deed k stage i (cycle orders room) = Some (cycle-deed i orders room)
-deed k stage i (report n f) = motor-deed i n (reports f)
-deed k stage i (acknowledgement n) = motor-deed i n acknowledges
+abbrev pub deed : List Line → Stage → CoilId → Asked → Option Deed
+deed lines stage i (setting n v) = set-deed i stage (look-up lines n) n v
+deed lines stage i (cycle orders room) = Some (cycle-deed i orders room)
+deed lines stage i (report n f) = motor-deed i n (reports f)
+deed lines stage i (acknowledgement n) = motor-deed i n acknowledges
 
 -- the number that a call answers; h and g are the shares of motor 1 and motor 2
 

@@ -1,0 +1,3 @@
+pub mod Stands
+pub mod Lists
+pub mod Ran

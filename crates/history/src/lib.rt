@@ -1,0 +1,74 @@
+// Lists of calls of a module, and running one from the making of the module to its end.
+ghost use mathlib.Core.List.{map};
+ghost use mathlib.Core.Path.{_≡_};
+ghost use Rattle.history.specs.Lists.{asked as asks, buffer, operated, prepared};
+ghost use Rattle.history.specs.Ran.{Once, Passed, Ran};
+ghost use Rattle.module.specs.Share.{rules};
+ghost use Rattle.registers.specs.declared.Stage.the-variants as stages;
+use axis::Axis;
+use coil::CoilDriver;
+use coil::CoilId;
+use module::Module;
+use module::MotorState;
+use module::Preparation;
+use module::PreparationStage;
+use module::Running;
+use module::RunningStage;
+use refusal::Refusal;
+use registers::Model;
+
+// A setting of a register.
+#[derive(Clone, Copy)]
+pub struct SetRegister {
+    pub register: u16,
+    pub value: i32,
+}
+
+// A call of a running module. A cycle has its record and its answer buffer, of any lengths.
+#[derive(Drop)]
+pub enum Call {
+    Setting(SetRegister),
+    Cycle { orders: Vec<u8>, answer: Vec<u8> },
+    Report { motor: u8, flags: u8 },
+    Acknowledge { motor: u8 },
+}
+
+// A call with the place for its answer.
+#[derive(Drop)]
+pub struct Entry<C> {
+    pub call: C,
+    pub ended: Result<(), Refusal>,
+}
+
+// The settings made in preparation and, once the module is started, the calls that follow.
+#[derive(Drop)]
+pub struct History {
+    pub preparation: Vec<Entry<SetRegister>>,
+    // absent where the module is never started
+    pub running: Option<Vec<Entry<Call>>>,
+}
+
+// What is seen at the end of a history.
+#[derive(Drop)]
+pub struct Ending<D> {
+    pub first: MotorState,
+    pub second: MotorState,
+    pub driver: D,
+}
+
+// One call of a running module.
+fn make_call<A: Model, D: CoilDriver>(
+    running: &mut Module<Running, A, D>,
+    call: &mut Call,
+) -> Result<(), Refusal>
+    ensures { λ r. ⌜ Once (rules (A·Axis .kind) (A·Model .lines)) (D·CoilDriver .meaning) (D·CoilDriver .did) (now (running .entry) .inner) (now (running .exit) .inner) (record { stage = stages.Running; asked = asks (now (call .entry)) }) (buffer (now (call .entry))) (operated (record { call = now (call .exit); ended = r })) ⌝ }
+{
+    match call {
+        Call::Setting(SetRegister { register, value }) => running.setting(*register, *value),
+        Call::Cycle { orders, answer } => {
+            running.cycle(orders.as_slice(), answer.as_mut_slice())
+        }
+        Call::Report { motor, flags } => running.report(*motor, *flags),
+        Call::Acknowledge { motor } => running.acknowledge(*motor),
+    }
+}
