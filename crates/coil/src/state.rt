@@ -1,4 +1,4 @@
-// One coil by itself: the four calls and what they make of it, proved once for every driver.
+// What is kept of one coil.
 ghost use mathlib.Core.Bool.{true};
 ghost use mathlib.Core.Path.{_≡_};
 ghost use Prim.Native.Nat.{_^_, _<_, _≤_};

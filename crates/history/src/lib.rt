@@ -1,7 +1,7 @@
 // Lists of calls of a module, and running one from the making of the module to its end.
 ghost use mathlib.Core.List.{map};
 ghost use mathlib.Core.Path.{_≡_};
-ghost use Rattle.history.specs.Lists.{asked as asks, buffer, operated, prepared};
+ghost use Rattle.history.specs.Lists.{asked as asks, buffer, operated as call-event, prepared as set-event};
 ghost use Rattle.history.specs.Ran.{Once, Passed, Ran};
 ghost use Rattle.module.specs.Share.{rules};
 ghost use Rattle.registers.specs.declared.Stage.the-variants as stages;
@@ -61,7 +61,7 @@ fn make_call<A: Model, D: CoilDriver>(
     running: &mut Module<Running, A, D>,
     call: &mut Call,
 ) -> Result<(), Refusal>
-    ensures { λ r. ⌜ Once (rules (A·Axis .kind) (A·Model .lines)) (D·CoilDriver .meaning) (D·CoilDriver .did) (now (running .entry) .inner) (now (running .exit) .inner) (record { stage = stages.Running; asked = asks (now (call .entry)) }) (buffer (now (call .entry))) (operated (record { call = now (call .exit); ended = r })) ⌝ }
+    ensures { λ r. ⌜ Once (rules (A·Axis .kind) (A·Model .lines)) (D·CoilDriver .meaning) (D·CoilDriver .did) (now (running .entry) .inner) (now (running .exit) .inner) (record { stage = stages.Running; asked = asks (now (call .entry)) }) (buffer (now (call .entry))) (call-event (record { call = now (call .exit); ended = r })) ⌝ }
 {
     match call {
         Call::Setting(SetRegister { register, value }) => running.setting(*register, *value),
@@ -70,5 +70,30 @@ fn make_call<A: Model, D: CoilDriver>(
         }
         Call::Report { motor, flags } => running.report(*motor, *flags),
         Call::Acknowledge { motor } => running.acknowledge(*motor),
+    }
+}
+
+// The settings of a module in preparation, in order.
+fn prepare<A: Model, D: CoilDriver>(
+    prepared: &mut Module<Preparation, A, D>,
+    entries: &mut [Entry<SetRegister>],
+)
+    ensures { λ _. ⌜ Passed (rules (A·Axis .kind) (A·Model .lines)) (D·CoilDriver .meaning) (D·CoilDriver .did) (now (prepared .entry) .inner) (now (prepared .exit) .inner) (map set-event (now (entries .entry))) (map set-event (now (entries .exit))) ⌝ }
+{
+    for entry in entries.iter_mut() {
+        let SetRegister { register, value } = entry.call;
+        entry.ended = prepared.setting(register, value);
+    }
+}
+
+// The calls of a running module, in order.
+fn operate<A: Model, D: CoilDriver>(
+    running: &mut Module<Running, A, D>,
+    entries: &mut [Entry<Call>],
+)
+    ensures { λ _. ⌜ Passed (rules (A·Axis .kind) (A·Model .lines)) (D·CoilDriver .meaning) (D·CoilDriver .did) (now (running .entry) .inner) (now (running .exit) .inner) (map call-event (now (entries .entry))) (map call-event (now (entries .exit))) ⌝ }
+{
+    for entry in entries.iter_mut() {
+        entry.ended = make_call(running, &mut entry.call);
     }
 }
