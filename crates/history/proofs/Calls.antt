@@ -29,7 +29,7 @@ use Rattle.std.specs.declared.option.Option.{Option}
 use Rattle.std.specs.declared.option.Option.the-variants.{Some, None}
 use Rattle.std.specs.declared.result.Result.the-variants.{Ok, Err}
 
-same-stand : {C A : Type 0} (s t : Stand C A) → s .one .own ≡ t .one .own → s .one .points ≡ t .one .points → s .two .own ≡ t .two .own → s .two .points ≡ t .two .points → s ≡ t
+pub same-stand : {C A : Type 0} (s t : Stand C A) → s .one .own ≡ t .one .own → s .one .points ≡ t .one .points → s .two .own ≡ t .two .own → s .two .points ≡ t .two .points → s ≡ t
 same-stand {C} {A} s t a p b q =
     let make : Share C A → ℕ → Share C A → ℕ → Stand C A = λ h m g n. record { one = record { own = h; points = m }; two = record { own = g; points = n } } in
     ap (λ z. make z (s .one .points) (s .two .own) (s .two .points)) a

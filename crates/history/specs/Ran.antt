@@ -4,16 +4,12 @@ use mathlib.Core.Bool.{true}
 use mathlib.Core.List.{List, _++_}
 use mathlib.Core.Path.{_≡_}
 use Rattle.coil.specs.Chains.{Chain, Did}
-use Rattle.coil.specs.Meaning.{Coils, at}
-use Rattle.coil.specs.declared.CoilId.{CoilId}
-use Rattle.coil.specs.declared.CoilId.the-variants.{First, Second}
+use Rattle.coil.specs.Meaning.{Coils}
 use Rattle.history.specs.Lists.{Answered, Event, events, preparation, queries, running, tolds}
-use Rattle.history.specs.Stands.{Query, Stand, coil, drives, first-stand, motor, stand, stand-after, stands, tells, told}
-use Rattle.history.specs.declared.Ending.{Ending}
+use Rattle.history.specs.Stands.{Query, Stand, drives, first-stand, stand, stand-after, stands, tells, told}
 use Rattle.history.specs.declared.History.{History}
 use Rattle.module.specs.Effects.{calls, first-calls}
-use Rattle.module.specs.Share.{Rules, wanted}
-use Rattle.module.specs.declared.MotorState.{MotorState}
+use Rattle.module.specs.Share.{Rules}
 use Rattle.module.specs.declared.inner.Inner.{Inner}
 use Rattle.std.specs.Results.{isErr}
 use Rattle.std.specs.declared.option.Option.{Option}
@@ -34,10 +30,6 @@ pub record Passed {C A D : Type 0} (k : Rules C A) (meaning : D → Coils) (did 
   pub answers : tolds ws ≡ tells k (stand (k .kind) meaning x) (queries vs)
   pub driver : Chain did (x .driver) (drives k (stand (k .kind) meaning x) (queries vs)) (y .driver)
 
-abbrev pub state : {D : Type 0} → Ending D → CoilId → MotorState
-state e First = e .first
-state e Second = e .second
-
 -- a module is started in the one history exactly if it is in the other
 abbrev pub Both-started : Option (List Event) → Option (List Event) → Type 0
 Both-started None None = Unit {0}
@@ -49,15 +41,13 @@ Both-started (Some vs) (Some ws) = Answered vs ws
 abbrev pub end-stand : {C A D : Type 0} → Rules C A → (D → Coils) → D → History → Stand C A
 end-stand k meaning d h = stands k (first-stand (k .kind) (meaning d)) (queries (events h))
 
--- a whole history over the driver d, from the making of the module to its end: h becomes g, and e comes back
-pub record Ran {C A D : Type 0} (k : Rules C A) (meaning : D → Coils) (did : Did D) (d : D) (h g : History) (e : Ending D) : Type 0 where
+-- a whole history over the driver d, from the making of the module to its end: h becomes g, and x is the module then
+pub record Ran {C A D : Type 0} (k : Rules C A) (meaning : D → Coils) (did : Did D) (d : D) (h g : History) (x : Inner A D C) : Type 0 where
   -- each entry has its answer: what was asked stays, and so does the buffer of a refused cycle
   pub prepared : Answered (preparation h) (preparation g)
   pub started : Both-started (running h) (running g)
   pub answers : tolds (events g) ≡ tells k (first-stand (k .kind) (meaning d)) (queries (events h))
-  -- what each motor shows at the end
-  pub fault : (i : CoilId) → state e i .fault ≡ motor (end-stand k meaning d h) i .own .fault
-  pub wants : (i : CoilId) → state e i .wanted ≡ wanted (k .kind) (motor (end-stand k meaning d h) i .own)
-  pub coils : (i : CoilId) → at (meaning (e .driver)) i ≡ coil (motor (end-stand k meaning d h) i)
+  -- what both motors show at the end: latest fault, wanted points, count, flags and points
+  pub after : stand (k .kind) meaning x ≡ end-stand k meaning d h
   -- the driver calls, in order, and no other
-  pub driver : Chain did d (first-calls ++ drives k (first-stand (k .kind) (meaning d)) (queries (events h))) (e .driver)
+  pub driver : Chain did d (first-calls ++ drives k (first-stand (k .kind) (meaning d)) (queries (events h))) (x .driver)

@@ -1,15 +1,13 @@
 // Lists of calls of a module, and running one from the making of the module to its end.
 ghost use mathlib.Core.List.{map};
-ghost use mathlib.Core.Path.{_≡_};
 ghost use Rattle.history.specs.Lists.{asked as asks, buffer, operated as call-event, prepared as set-event};
 ghost use Rattle.history.specs.Ran.{Once, Passed, Ran};
 ghost use Rattle.module.specs.Share.{rules};
 ghost use Rattle.registers.specs.declared.Stage.the-variants as stages;
 use axis::Axis;
 use coil::CoilDriver;
-use coil::CoilId;
+use module::Closed;
 use module::Module;
-use module::MotorState;
 use module::Preparation;
 use module::PreparationStage;
 use module::Running;
@@ -46,14 +44,6 @@ pub struct History {
     pub preparation: Vec<Entry<SetRegister>>,
     // absent where the module is never started
     pub running: Option<Vec<Entry<Call>>>,
-}
-
-// What is seen at the end of a history.
-#[derive(Drop)]
-pub struct Ending<D> {
-    pub first: MotorState,
-    pub second: MotorState,
-    pub driver: D,
 }
 
 // One call of a running module.
@@ -95,5 +85,21 @@ fn operate<A: Model, D: CoilDriver>(
 {
     for entry in entries.iter_mut() {
         entry.ended = make_call(running, &mut entry.call);
+    }
+}
+
+// Makes a module over the driver and runs the history to its end. Every call gets its answer, and nothing is allocated.
+pub fn run<A: Model, D: CoilDriver>(driver: D, history: &mut History) -> Module<Closed, A, D>
+    ensures { λ r. ⌜ Ran (rules (A·Axis .kind) (A·Model .lines)) (D·CoilDriver .meaning) (D·CoilDriver .did) driver (now (history .entry)) (now (history .exit)) (r .inner) ⌝ }
+{
+    let mut prepared: Module<Preparation, A, D> = Module::new(driver);
+    prepare(&mut prepared, history.preparation.as_mut_slice());
+    match &mut history.running {
+        None => prepared.close(),
+        Some(entries) => {
+            let mut running = prepared.start();
+            operate(&mut running, entries.as_mut_slice());
+            running.close()
+        }
     }
 }

@@ -42,6 +42,10 @@ pub struct Preparation {}
 #[derive(Clone, Copy)]
 pub struct Running {}
 
+// The last of a module: it can be read, and gives its driver back.
+#[derive(Clone, Copy)]
+pub struct Closed {}
+
 pub impl ModuleStage for Preparation as PreparationStage {
     ghost stage = { stages.Preparation };
 
@@ -60,7 +64,7 @@ pub impl ModuleStage for Running as RunningStage {
 
 // A module of two motors of one kind over a driver. It is neither copied nor let go: `start` takes a module in
 // preparation and gives a running one, and `end` gives the driver back.
-pub struct Module<S: ModuleStage, A: Axis, D> {
+pub struct Module<S: Copy, A: Axis, D> {
     stage: S,
     inner: Inner<A, D>,
 }
@@ -108,7 +112,9 @@ impl<S: ModuleStage, A: Model, D: CoilDriver> Module<S, A, D> {
     {
         self.inner.setting(S::stage(), register, value)
     }
+}
 
+impl<S: Copy, A: Model, D: CoilDriver> Module<S, A, D> {
     // The latest fault of a motor, if there was one.
     pub fn latest_fault(&self, motor: u8) -> Result<Option<Fault>, Refusal>
         ensures { λ r. ⌜ r ≡ of-motor motor (share (A·Axis .kind) (D·CoilDriver .meaning) (now (self .entry) .inner) First .fault) (share (A·Axis .kind) (D·CoilDriver .meaning) (now (self .entry) .inner) Second .fault) ⌝ }
@@ -146,6 +152,20 @@ impl<S: ModuleStage, A: Model, D: CoilDriver> Module<S, A, D> {
         MotorState {
             fault: motor.fault,
             wanted: motor.wanted(),
+        }
+    }
+
+    // Takes no more calls; what the module shows can still be read.
+    pub fn close(self) -> Module<Closed, A, D>
+        ensures { λ r. ⌜ r .inner ≡ self .inner ⌝ }
+    {
+        let Module {
+            stage: _stage,
+            inner,
+        } = self;
+        Module {
+            stage: Closed {},
+            inner,
         }
     }
 

@@ -171,3 +171,39 @@ pub impl Axis for StepAxis as StepAxisAxis {
         ended
     }
 }
+
+#[cfg(test)]
+mod tests {
+    use super::*;
+    use crate::config::StepConfigDebug;
+    use crate::config::StepConfigPartialEq;
+    use std::test::*;
+
+    #[test]
+    fn words_are_read() -> Result<(), Fail> {
+        check(matches!(decode(0x8005), (5, Current::Nominal)))?;
+        check(matches!(decode(0xA001), (-1, Current::Nominal)))?;
+        check(matches!(decode(0x0005), (5, Current::Off)))?;
+        check(matches!(decode(0x9FFF), (8191, Current::Nominal)))?;
+        check_eq(Resolution::Five.microsteps(5), 40)?;
+        check_eq(Resolution::Five.microsteps(8191), 65_528)
+    }
+
+    fn config(words: WordCount, resolution: Resolution) -> Option<StepConfig> {
+        Some(StepConfig { words, resolution })
+    }
+
+    #[test]
+    fn configuration_is_read() -> Result<(), Fail> {
+        let one_five = config(WordCount::One, Resolution::Five);
+        let four_five = config(WordCount::Four, Resolution::Five);
+        let two_eight = config(WordCount::Two, Resolution::Eight);
+        check_eq(StepConfig::from_register(0x0800), one_five)?;
+        check_eq(StepConfig::from_register(0x0810), four_five)?;
+        check_eq(StepConfig::from_register(0x0868), two_eight)?;
+        for bits in [0x0818, 0x0000, 0x0801, -1, 0x10800] {
+            check_eq(StepConfig::from_register(bits), None)?;
+        }
+        Ok(())
+    }
+}

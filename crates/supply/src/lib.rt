@@ -25,3 +25,17 @@ impl Supply {
         (first, u16::from(second).min(left) as u8)
     }
 }
+
+#[cfg(test)]
+mod tests {
+    use super::*;
+    use std::test::*;
+
+    #[test]
+    fn second_motor_gets_what_is_left() -> Result<(), Fail> {
+        let mut supply = Supply::new();
+        check_eq(supply.share(167, 167), (167, 100))?;
+        check_eq(supply.share(160, 108), (160, 107))?;
+        check_eq(supply.share(0, 167), (0, 167))
+    }
+}
