@@ -43,9 +43,9 @@ called-stand {C} {A} {D} k meaning did stage a x y r c =
     let s : Stand C A = stand (k .kind) meaning x in
     let q : Query = record { stage = stage; asked = a } in
     let points : (i : CoilId) → at (meaning (y .driver)) i .points ≡ points-after i (at (meaning (x .driver)) i) (wanted (k .kind) (share-after k First (s .one) q)) (wanted (k .kind) (share-after k Second (s .two) q)) (deed (k .lines) stage i a) =
-      λ i. c .points i
-        ∙ ap (λ h. points-after i (at (meaning (x .driver)) i) (wanted (k .kind) h) (wanted (k .kind) (share (k .kind) meaning y Second)) (deed (k .lines) stage i a)) (c .motors First)
-        ∙ ap (λ h. points-after i (at (meaning (x .driver)) i) (wanted (k .kind) (share-after k First (s .one) q)) (wanted (k .kind) h) (deed (k .lines) stage i a)) (c .motors Second) in
+    λ i. c .points i
+    ∙ ap (λ h. points-after i (at (meaning (x .driver)) i) (wanted (k .kind) h) (wanted (k .kind) (share (k .kind) meaning y Second)) (deed (k .lines) stage i a)) (c .motors First)
+    ∙ ap (λ h. points-after i (at (meaning (x .driver)) i) (wanted (k .kind) (share-after k First (s .one) q)) (wanted (k .kind) h) (deed (k .lines) stage i a)) (c .motors Second) in
     same-stand (stand (k .kind) meaning y) (stand-after k s q) (c .motors First) (points First) (c .motors Second) (points Second)
 
 -- a call that is no cycle
@@ -56,8 +56,8 @@ once-plain {C} {A} {D} k meaning did stage a x y r none c = record {
   buffer = λ _. refl;
   after = called-stand k meaning did stage a x y r c;
   answer = ap (λ n. record { number = n; one = None; two = None }) (c .number)
-    ∙ ap (λ o. record { number = answer k stage (share (k .kind) meaning x First) (share (k .kind) meaning x Second) a; one = o; two = None }) (sym (none First (share (k .kind) meaning x First)))
-    ∙ ap (λ o. record { number = answer k stage (share (k .kind) meaning x First) (share (k .kind) meaning x Second) a; one = given (k .kind) First (share (k .kind) meaning x First) a; two = o }) (sym (none Second (share (k .kind) meaning x Second)));
+      ∙ ap (λ o. record { number = answer k stage (share (k .kind) meaning x First) (share (k .kind) meaning x Second) a; one = o; two = None }) (sym (none First (share (k .kind) meaning x First)))
+      ∙ ap (λ o. record { number = answer k stage (share (k .kind) meaning x First) (share (k .kind) meaning x Second) a; one = given (k .kind) First (share (k .kind) meaning x First) a; two = o }) (sym (none Second (share (k .kind) meaning x Second)));
   driver = c .driver;
 }
 
@@ -81,8 +81,8 @@ once-cycle {C} {A} {D} k meaning did orders before bytes room x y r c f =
       buffer = f .untouched;
       after = called-stand k meaning did Running (cycle orders room) x y r c;
       answer = ap (λ n. record { number = n; one = half-told First bytes r; two = half-told Second bytes r }) (c .number)
-        ∙ ap (λ o. record { number = num; one = o; two = half-told Second bytes r }) (halves-told k meaning x orders before bytes room r First (c .number) f)
-        ∙ ap (λ o. record { number = num; one = given (k .kind) First (share (k .kind) meaning x First) (cycle orders room); two = o }) (halves-told k meaning x orders before bytes room r Second (c .number) f);
+          ∙ ap (λ o. record { number = num; one = o; two = half-told Second bytes r }) (halves-told k meaning x orders before bytes room r First (c .number) f)
+          ∙ ap (λ o. record { number = num; one = given (k .kind) First (share (k .kind) meaning x First) (cycle orders room); two = o }) (halves-told k meaning x orders before bytes room r Second (c .number) f);
       driver = c .driver;
     }
 

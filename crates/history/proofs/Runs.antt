@@ -52,9 +52,9 @@ so-more {C} {A} {D} k meaning did x₀ x y vs₀ vs n d w s lt o =
     let q₀ : v₀ .query ≡ q = ap (λ e. e .query) (sym same) in
     let now : Stand C A = stand (k .kind) meaning x in
     let next : stands k (stand (k .kind) meaning y) (queries R) ≡ stands k now (queries (drop n vs₀)) =
-      ap (λ t. stands k t (queries R)) (o .after) ∙ ap (λ p. stands k now (p ∷ queries R)) (sym q₀) ∙ ap (λ es. stands k now (queries es)) (sym left₀) in
+    ap (λ t. stands k t (queries R)) (o .after) ∙ ap (λ p. stands k now (p ∷ queries R)) (sym q₀) ∙ ap (λ es. stands k now (queries es)) (sym left₀) in
     let says : w .told ∷ tells k (stand (k .kind) meaning y) (queries R) ≡ tells k now (queries (drop n vs₀)) =
-      ap (λ t. t ∷ tells k (stand (k .kind) meaning y) (queries R)) (o .answer) ∙ ap (λ t. told k now q ∷ tells k t (queries R)) (o .after) ∙ ap (λ p. tells k now (p ∷ queries R)) (sym q₀) ∙ ap (λ es. tells k now (queries es)) (sym left₀) in
+    ap (λ t. t ∷ tells k (stand (k .kind) meaning y) (queries R)) (o .answer) ∙ ap (λ t. told k now q ∷ tells k t (queries R)) (o .after) ∙ ap (λ p. tells k now (p ∷ queries R)) (sym q₀) ∙ ap (λ es. tells k now (queries es)) (sym left₀) in
     let P : List Event → Type 0 = λ es. Answered es (take (n + 1) (set vs n w)) in
     let Q : List Event → Type 0 = λ es. Answered (take n vs₀ ++ v₀ ∷ []) es in
     record {
@@ -62,12 +62,12 @@ so-more {C} {A} {D} k meaning did x₀ x y vs₀ vs n d w s lt o =
       answered = subst P (sym (take-more vs₀ n d lt₀)) (subst Q (sym (take-more-set vs n w lt)) (answered-push (take n vs₀) (take n vs) v₀ w (s .answered) (o .asked ∙ sym q₀) (λ e. o .buffer e ∙ ap (λ z. z .buffer) same)));
       after = next ∙ s .after;
       answers = ap (λ es. tolds es ++ tells k (stand (k .kind) meaning y) (queries R)) (take-more-set vs n w lt)
-        ∙ ap (λ ts. ts ++ tells k (stand (k .kind) meaning y) (queries R)) (map-push (λ z. z .told) (take n vs) w)
-        ∙ append-assoc (tolds (take n vs)) (w .told ∷ []) (tells k (stand (k .kind) meaning y) (queries R))
-        ∙ ap (λ ts. tolds (take n vs) ++ ts) says ∙ s .answers;
+          ∙ ap (λ ts. ts ++ tells k (stand (k .kind) meaning y) (queries R)) (map-push (λ z. z .told) (take n vs) w)
+          ∙ append-assoc (tolds (take n vs)) (w .told ∷ []) (tells k (stand (k .kind) meaning y) (queries R))
+          ∙ ap (λ ts. tolds (take n vs) ++ ts) says ∙ s .answers;
       driver = λ z p. s .driver z (subst (λ ds. Chain did (x .driver) ds z)
-        (ap (λ t. calls k (now .one .own) (now .two .own) (q .asked) ++ drives k t (queries R)) (o .after) ∙ ap (λ p. drives k now (p ∷ queries R)) (sym q₀) ∙ ap (λ es. drives k now (queries es)) (sym left₀))
-        (chain-append did (x .driver) (y .driver) z (calls k (now .one .own) (now .two .own) (q .asked)) (drives k (stand (k .kind) meaning y) (queries R)) (o .driver) p));
+          (ap (λ t. calls k (now .one .own) (now .two .own) (q .asked) ++ drives k t (queries R)) (o .after) ∙ ap (λ p. drives k now (p ∷ queries R)) (sym q₀) ∙ ap (λ es. drives k now (queries es)) (sym left₀))
+          (chain-append did (x .driver) (y .driver) z (calls k (now .one .own) (now .two .own) (q .asked)) (drives k (stand (k .kind) meaning y) (queries R)) (o .driver) p));
     }
 
 getD-map : {E : Type 0} (f : E → Event) (es : List E) (n : ℕ) (d : E) → getD (map f es) n (f d) ≡ f (getD es n d)

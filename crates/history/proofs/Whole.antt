@@ -60,12 +60,12 @@ ran {C} {A} {D} k meaning did d h g vs ws us ts x y z he ge ho go both m p q =
       prepared = subst P (sym he) (subst Q (sym ge) (p .answered));
       started = both;
       answers = ap (λ a. tolds (a ++ operation (running g))) ge ∙ ap (λ b. tolds (ws ++ b)) go ∙ map-append (λ v. v .told) ws ts
-        ∙ ap (λ a. a ++ tolds ts) (p .answers ∙ ap (λ t. tells k t (queries vs)) first)
-        ∙ ap (λ b. tells k s (queries vs) ++ b) (q .answers ∙ ap (λ t. tells k t (queries us)) mid)
-        ∙ sym (tells-append k s (queries vs) (queries us)) ∙ ap (tells k s) (sym all);
+          ∙ ap (λ a. a ++ tolds ts) (p .answers ∙ ap (λ t. tells k t (queries vs)) first)
+          ∙ ap (λ b. tells k s (queries vs) ++ b) (q .answers ∙ ap (λ t. tells k t (queries us)) mid)
+          ∙ sym (tells-append k s (queries vs) (queries us)) ∙ ap (tells k s) (sym all);
       after = q .after ∙ ap (λ t. stands k t (queries us)) mid ∙ sym (stands-append k s (queries vs) (queries us)) ∙ ap (stands k s) (sym all);
       driver = chain-append did d (x .driver) (z .driver) first-calls (drives k s (queries (events h))) (m .driver)
-        (subst (λ ds. Chain did (x .driver) ds (z .driver))
+          (subst (λ ds. Chain did (x .driver) ds (z .driver))
           (ap (λ t. drives k t (queries vs) ++ drives k (stand (k .kind) meaning y) (queries us)) first ∙ ap (λ t. drives k s (queries vs) ++ drives k t (queries us)) mid ∙ sym (drives-append k s (queries vs) (queries us)) ∙ ap (drives k s) (sym all))
           (chain-append did (x .driver) (y .driver) (z .driver) (drives k (stand (k .kind) meaning x) (queries vs)) (drives k (stand (k .kind) meaning y) (queries us)) (p .driver) (q .driver)));
     }
@@ -82,7 +82,7 @@ ran-none {C} {A} {D} k meaning did d h g es es′ x y z he ge hr gr m p same =
     let Q : Option (Vec (Entry Call) Global) → Type 0 = λ o. Both-started (of-running o) (running g) in
     let R : Option (Vec (Entry Call) Global) → Type 0 = λ o. Both-started None (of-running o) in
     subst P (sym same) (ran k meaning did d h g (map prepared es) (map prepared es′) [] [] x y y (ap (map prepared) (sym he)) (ap (map prepared) ge)
-      (ap (λ o. operation (of-running o)) hr) (ap (λ o. operation (of-running o)) gr) (subst Q (sym hr) (subst R (sym gr) tt)) m p (passed-none k meaning did y))
+    (ap (λ o. operation (of-running o)) hr) (ap (λ o. operation (of-running o)) gr) (subst Q (sym hr) (subst R (sym gr) tt)) m p (passed-none k meaning did y))
 
 -- a module that is started
 pub ran-some : {C A D : Type 0} (k : Rules C A) (meaning : D → Coils) (did : Did D) (d : D) (h g : History) (es es′ : List (Entry SetRegister)) (v w : Vec (Entry Call) Global) (fs fs′ : List (Entry Call)) (x y y′ z z′ : Inner A D C) →
@@ -98,4 +98,4 @@ ran-some {C} {A} {D} k meaning did d h g es es′ v w fs fs′ x y y′ z z′ h
     let T : List Event → Type 0 = λ a. Answered a (map operated (vec-items w)) in
     let U : List Event → Type 0 = λ a. Answered (map operated fs) a in
     subst P (sym end) (ran k meaning did d h g (map prepared es) (map prepared es′) (map operated fs) (map operated fs′) x y z (ap (map prepared) (sym he)) (ap (map prepared) ge)
-      (ap (λ o. operation (of-running o)) hr ∙ us) (ap (λ o. operation (of-running o)) gr ∙ ts) (subst R (sym hr) (subst S (sym gr) (subst T (sym us) (subst U (sym ts) (q .answered))))) m p (subst Q same q))
+    (ap (λ o. operation (of-running o)) hr ∙ us) (ap (λ o. operation (of-running o)) gr ∙ ts) (subst R (sym hr) (subst S (sym gr) (subst T (sym us) (subst U (sym ts) (q .answered))))) m p (subst Q same q))

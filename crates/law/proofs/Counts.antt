@@ -1,20 +1,18 @@
 -- With step words a count is the first count plus the words taken.
 use Prim.Native.Nat.{ℕ, _+_, _^_, _<_}
-use lib.Dec.{lit<, ltb}
+use lib.Dec.{lit<}
 use lib.IntN.{ℤ, pos, _+ℤ_, _*ℤ_}
-use mathlib.Core.Bool.{cond}
-use mathlib.Core.List.{List, [], _∷_, _++_}
+use mathlib.Core.List.{List, [], _∷_}
 use mathlib.Core.Path.{_≡_, refl, sym, ap, _∙_}
 use native.Mathlib.Nat.{add-zero, mod-eq-of-lt}
 use native.Mathlib.Omega.{arith}
 use Rattle.coil.proofs.Wraps.{modulo-below, modulo-onto}
-use Rattle.coil.specs.Meaning.{cleared, noted}
 use Rattle.coil.specs.Modulo.{modulo}
 use Rattle.coil.specs.declared.CoilId.{CoilId}
 use Rattle.law.specs.Deeds.{ending, microsteps-taken}
-use Rattle.module.specs.Effects.{Deed, acknowledges, after, config-after, misses, moves, reports, sets, starts}
+use Rattle.module.specs.Effects.{Deed, acknowledges, after, misses, moves, reports, sets, starts}
 use Rattle.module.specs.Share.{Rules, Share, rules}
-use Rattle.registers.specs.Tables.{look-up, step-lines}
+use Rattle.registers.specs.Tables.{step-lines}
 use Rattle.std.proofs.shelf.Signed.{ints}
 use Rattle.step_axis.specs.Taken.{step-kind, steps-taken}
 use Rattle.step_axis.specs.Words.{counted, scale}
@@ -42,13 +40,3 @@ counts i h (moves orders ∷ ds) b =
 counts i h (misses n m ∷ ds) b = counts i h ds b
 counts i h (reports f ∷ ds) b = counts i (after (rules step-kind step-lines) i h (reports f)) ds b
 counts i h (acknowledges ∷ ds) b = counts i (after (rules step-kind step-lines) i h acknowledges) ds b
-
--- the start in between moves nothing
-pub travel-start : (config : StepConfig) (flags : ℕ) (xs ys : List Deed) → microsteps-taken config flags (xs ++ starts ∷ ys) ≡ microsteps-taken config flags (xs ++ ys)
-travel-start config flags [] ys = refl
-travel-start config flags (sets stage n v ∷ xs) ys = travel-start (config-after step-kind stage (look-up step-lines n) config v) flags xs ys
-travel-start config flags (starts ∷ xs) ys = travel-start config flags xs ys
-travel-start config flags (moves orders ∷ xs) ys = ap (λ z. steps-taken flags (counted config orders) *ℤ pos (scale (config .resolution)) +ℤ z) (travel-start config flags xs ys)
-travel-start config flags (misses n m ∷ xs) ys = travel-start config flags xs ys
-travel-start config flags (reports f ∷ xs) ys = travel-start config (cond (ltb f 16) (noted flags f) flags) xs ys
-travel-start config flags (acknowledges ∷ xs) ys = travel-start config (cleared flags) xs ys

@@ -106,6 +106,7 @@ heard-motor {C} {A} k Second h n d r rs e = by (eqb n 2) refl
   where
     one : eqb n 2 ≡ true → motor-answer n r ≡ r
     one p = let two : n ≡ 2 = eqb-true n 2 p in ap (λ m. motor-answer m r) two
+
     by : (t : Bool) → eqb n 2 ≡ t → heard-one (cond (eqb n 2) (Some d) None) (record { number = motor-answer n r; bytes = None }) rs ≡ once k h (cond (eqb n 2) (Some d) None) rs
     by true p = ap (λ t. heard-one (cond t (Some d) None) (record { number = motor-answer n r; bytes = None }) rs) p ∙ ap (λ z. record { number = z; bytes = None } ∷ rs) (one p) ∙ e ∙ ap (λ t. once k h (cond t (Some d) None) rs) (sym p)
     by false p = ap (λ t. heard-one (cond t (Some d) None) (record { number = motor-answer n r; bytes = None }) rs) p ∙ ap (λ t. once k h (cond t (Some d) None) rs) (sym p)

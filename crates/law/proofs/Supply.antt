@@ -108,7 +108,7 @@ pub record Fine {C A : Type 0} (k : Kind C A) (m : Standing C A) (b : Bool) : Ty
 abbrev pub Rests : {C A : Type 0} → Kind C A → Type 0
 Rests {C} {A} k = (config : C) (x : A) (s : Seen) (orders : List ℕ) → tripped (k .cycle config x s orders .flags) ≡ true → k .current (k .cycle config x s orders .axis) ≡ Off
 
-never : {X : Type 0} → false ≡ true → X
+pub never : {X : Type 0} → false ≡ true → X
 never e = let n : _≡_ {A = ℕ} 0 1 = ap (λ t. cond t 1 0) e in absurd (omega arith)
 
 fine-report : {C A : Type 0} (k : Rules C A) (i : CoilId) (m : Standing C A) (b : Bool) (f w v : ℕ) → Fine (k .kind) m b → (t u x : Bool) → ltb f 16 ≡ t → tripped f ≡ u → tripped (noted (m .own .flags) f) ≡ x →
@@ -121,10 +121,13 @@ fine-report {C} {A} k i m b f w v s t u x te ue xe = record {
   where
     want : ℕ
     want = wanted (k .kind) (m .own)
+
     Points : ℕ → Type 0
     Points p = cond t (cond (tripped f) false b) b ≡ true → min 100 want ≤ p
+
     Enough : Bool → Type 0
     Enough z = z ≡ true → min 100 want ≤ points-after i (coil m) w v (Some (reports f))
+
     enough : (t u x : Bool) → ltb f 16 ≡ t → tripped f ≡ u → tripped (noted (m .own .flags) f) ≡ x → cond t (cond (tripped f) false b) b ≡ true → min 100 want ≤ cond t (cond (tripped (noted (m .own .flags) f)) 0 (m .points)) (m .points)
     enough true true x te ue xe q = never (sym (ap (λ z. cond z false b) ue) ∙ q)
     enough true false true te ue xe q =
@@ -133,10 +136,13 @@ fine-report {C} {A} k i m b f w v s t u x te ue xe = record {
         omega (arith, none)
     enough true false false te ue xe q = subst (λ z. min 100 want ≤ cond z 0 (m .points)) (sym xe) (s .enough (sym (ap (λ z. cond z false b) ue) ∙ q))
     enough false u x te ue xe q = s .enough q
+
     Flags : ℕ → Type 0
     Flags g = cond t (cond (tripped f) false b) b ≡ true → tripped g ≡ true → want ≡ 0
+
     Quiet : Bool → Type 0
     Quiet z = z ≡ true → tripped (after k i (m .own) (reports f) .flags) ≡ true → want ≡ 0
+
     rests : (t u : Bool) → ltb f 16 ≡ t → tripped f ≡ u → cond t (cond (tripped f) false b) b ≡ true → tripped (cond t (noted (m .own .flags) f) (m .own .flags)) ≡ true → want ≡ 0
     rests true true te ue q y = never (sym (ap (λ z. cond z false b) ue) ∙ q)
     rests true false te ue q y = s .rests (sym (ap (λ z. cond z false b) ue) ∙ q) (report-tripped (m .own .flags) f (ltb-true f 16 te) y ue)

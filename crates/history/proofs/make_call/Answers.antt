@@ -19,7 +19,7 @@ pub returns-in-Cycle : need.returns-in-Cycle
 returns-in-Cycle g c =
     matched (rules (g .A·Axis .kind) (g .A·Model .lines)) (g .D·CoilDriver .meaning) (g .D·CoilDriver .did) (c .args .running .now .inner) (c .cycle .last .self .inner) (c .args .call .now) _ _ (c .in-Cycle .is)
     (once-buffers (rules (g .A·Axis .kind) (g .A·Model .lines)) (g .D·CoilDriver .meaning) (g .D·CoilDriver .did) _ (vec-items (c .in-Cycle .orders)) _ (vec-items (c .in-Cycle .answer)) (c .cycle .last .answer) _ (vec-len (c .in-Cycle .answer)) (c .args .running .now .inner) (c .cycle .last .self .inner) (c .cycle .result)
-      (c .as-slice .ensures .value) (c .as-mut-slice .ensures .value) (search needs) (sym (kept (vec-len (c .in-Cycle .answer)) (c .cycle .last .answer) _ (search needs))) (c .cycle .ensures .effect) (c .cycle .ensures .answer))
+    (c .as-slice .ensures .value) (c .as-mut-slice .ensures .value) (search needs) (sym (kept (vec-len (c .in-Cycle .answer)) (c .cycle .last .answer) _ (search needs))) (c .cycle .ensures .effect) (c .cycle .ensures .answer))
 
 pub returns-in-Report : need.returns-in-Report
 returns-in-Report g c =
