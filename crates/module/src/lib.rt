@@ -93,14 +93,7 @@ impl<A: Model, D: CoilDriver> Module<Preparation, A, D> {
     pub fn start(self) -> Module<Running, A, D>
         ensures { λ r. ⌜ r .inner ≡ self .inner ⌝ }
     {
-        let Module {
-            stage: _stage,
-            inner,
-        } = self;
-        Module {
-            stage: Running {},
-            inner,
-        }
+        self.at_stage(Running {})
     }
 }
 
@@ -115,6 +108,16 @@ impl<S: ModuleStage, A: Model, D: CoilDriver> Module<S, A, D> {
 }
 
 impl<S: Copy, A: Model, D: CoilDriver> Module<S, A, D> {
+    fn at_stage<T: Copy>(self, stage: T) -> Module<T, A, D>
+        ensures { λ r. ⌜ r .inner ≡ self .inner ⌝ }
+    {
+        let Module {
+            stage: _stage,
+            inner,
+        } = self;
+        Module { stage, inner }
+    }
+
     // The latest fault of a motor, if there was one.
     pub fn latest_fault(&self, motor: u8) -> Result<Option<Fault>, Refusal>
         ensures { λ r. ⌜ r ≡ of-motor motor (share (A·Axis .kind) (D·CoilDriver .meaning) (now (self .entry) .inner) First .fault) (share (A·Axis .kind) (D·CoilDriver .meaning) (now (self .entry) .inner) Second .fault) ⌝ }
@@ -159,14 +162,7 @@ impl<S: Copy, A: Model, D: CoilDriver> Module<S, A, D> {
     pub fn close(self) -> Module<Closed, A, D>
         ensures { λ r. ⌜ r .inner ≡ self .inner ⌝ }
     {
-        let Module {
-            stage: _stage,
-            inner,
-        } = self;
-        Module {
-            stage: Closed {},
-            inner,
-        }
+        self.at_stage(Closed {})
     }
 
     // Ends the module and gives its driver back as it stands.
