@@ -1,6 +1,6 @@
 // Why a call is refused. A refused call alters nothing.
 ghost use mathlib.Core.Path.{_≡_};
-ghost use Rattle.refusal.specs.Numbers.{number};
+ghost use Rattle.refusal.specs.Numbers.{answer-number, number};
 
 #[derive(Clone, Copy, PartialEq, Eq, Debug)]
 pub enum Refusal {
@@ -23,7 +23,7 @@ pub enum Refusal {
 }
 
 impl Refusal {
-    // The number that the module answers; a call that is taken answers 0.
+    // The number that the module answers.
     pub fn number(self) -> u8
         ensures { λ r. ⌜ r ≡ number self ⌝ }
     {
@@ -37,5 +37,15 @@ impl Refusal {
             Refusal::UnknownMotor => 7,
             Refusal::UnknownFlags => 8,
         }
+    }
+}
+
+// The number that a call answers: 0 where it is taken.
+pub fn answer_number(answer: Result<(), Refusal>) -> u8
+    ensures { λ r. ⌜ r ≡ answer-number answer ⌝ }
+{
+    match answer {
+        Ok(()) => 0,
+        Err(refusal) => refusal.number(),
     }
 }
