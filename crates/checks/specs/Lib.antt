@@ -1,0 +1,3 @@
+pub mod Bench
+pub mod Good
+pub mod Runs
