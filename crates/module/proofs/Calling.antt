@@ -18,7 +18,8 @@ use Rattle.coil.specs.declared.CoilCall.the-variants.{Clear, Note}
 use Rattle.coil.specs.declared.CoilId.{CoilId}
 use Rattle.coil.specs.declared.CoilId.the-variants.{First, Second}
 use Rattle.coil.specs.declared.DriverCall.{DriverCall}
-use Rattle.module.proofs.Turns.{same-share}
+use Rattle.module.proofs.Setting.{either-way}
+use Rattle.module.proofs.Turns.{at-put, at-put-other, same-share}
 use Rattle.module.specs.Called.{Adjusted, Called, Filled, Moved, Shared}
 use Rattle.module.specs.Effects.{Answer, Asked, Deed, acknowledgement, acknowledges, addressee, after, adjusted-share, answer, adjusted, calls, concerns, config-after, configured, currents-after, cycle, cycle-calls, cycle-deed, deed, feeds, flags-answer, in-range, half, length-answer, lives, misses, motor-answer, motor-deed, move-calls, moved-share, moves, note-calls, number, of-motor, outcome, points-after, report, reports, set-deed, set-motor, set-share, sets, setting, setting-answer, value-answer, with-config, with-currents}
 use Rattle.module.specs.Share.{Rules, Share, motor-at, powered, share, share-of, wanted}
@@ -85,16 +86,6 @@ other-deed Second Second d ne = absurd (ne refl)
 for-motor : {X : Type 0} (i : CoilId) (f : CoilId → X) (z : X) → cond (eqb (number i) 1) (f First) (cond (eqb (number i) 2) (f Second) z) ≡ f i
 for-motor First f z = refl
 for-motor Second f z = refl
-
-at-put : (c : Coils) (i : CoilId) (x : Coil) → at (put c i x) i ≡ x
-at-put c First x = refl
-at-put c Second x = refl
-
-at-put-other : (c : Coils) (i j : CoilId) (x : Coil) → (i ≡ j → ⊥) → at (put c i x) j ≡ at c j
-at-put-other c First First x ne = absurd (ne refl)
-at-put-other c First Second x ne = refl
-at-put-other c Second First x ne = refl
-at-put-other c Second Second x ne = absurd (ne refl)
 
 -- a deed d to the motor i alone, that leaves it the coil c
 called-motor : {C A D : Type 0} (k : Rules C A) (meaning : D → Coils) (did : Did D) (asked : Asked) (d : Deed) (i : CoilId) (x : Inner A D C) (e : D) (c : Coil) →
@@ -305,10 +296,6 @@ pub set-closed : {C A D : Type 0} (k : Rules C A) (meaning : D → Coils) (did :
 set-closed k meaning did stage n v x r e c = called-set k meaning did stage n v x x (Err Closed) (Some r) e
     (ap (λ t. cond t (value-answer (k .kind) (r .setting) (powered (k .kind) (set-motor (r .setting) (share (k .kind) meaning x First) (share (k .kind) meaning x Second))) v) (Err Closed)) (sym c))
     (λ i. closed (k .kind) stage r i (share (k .kind) meaning x i) v c) refl (λ _. refl)
-
-either-way : {X : Type 0} (b : Bool) (x : X) → cond b x x ≡ x
-either-way true x = refl
-either-way false x = refl
 
 -- the register that was found, by what it sets
 found-as : (o : Option Register) (r : Register) (s : Setting) → o ≡ Some r → r .setting ≡ s → o ≡ Some (record { setting = s; opened = r .opened })

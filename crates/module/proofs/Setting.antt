@@ -27,7 +27,7 @@ use Rattle.std.specs.declared.option.Option.{Option}
 use Rattle.std.specs.declared.option.Option.the-variants.{Some, None}
 use Rattle.std.specs.declared.result.Result.the-variants.{Ok, Err}
 
-either-way : {X : Type 0} (b : Bool) (x : X) → cond b x x ≡ x
+pub either-way : {X : Type 0} (b : Bool) (x : X) → cond b x x ≡ x
 either-way true x = refl
 either-way false x = refl
 

@@ -36,7 +36,7 @@ same-share {C} {A} h g config axis currents fault cycles count flags =
     ∙ ap (λ z. make (g .config) (g .axis) (g .currents) (g .fault) (g .cycles) z (h .flags)) count
     ∙ ap (λ z. make (g .config) (g .axis) (g .currents) (g .fault) (g .cycles) (g .count) z) flags
 
-at-put : (c : Coils) (i : CoilId) (x : Coil) → at (put c i x) i ≡ x
+pub at-put : (c : Coils) (i : CoilId) (x : Coil) → at (put c i x) i ≡ x
 at-put c First x = refl
 at-put c Second x = refl
 
@@ -66,7 +66,7 @@ other-motor k First Second ms m ne = getD-set-other ms 0 1 m (idle k) (λ e. abs
 other-motor k Second First ms m ne = getD-set-other ms 1 0 m (idle k) (λ e. absurd (omega arith))
 other-motor k Second Second ms m ne = absurd (ne refl)
 
-at-put-other : (c : Coils) (i j : CoilId) (x : Coil) → (i ≡ j → ⊥) → at (put c i x) j ≡ at c j
+pub at-put-other : (c : Coils) (i j : CoilId) (x : Coil) → (i ≡ j → ⊥) → at (put c i x) j ≡ at c j
 at-put-other c First First x ne = absurd (ne refl)
 at-put-other c First Second x ne = refl
 at-put-other c Second First x ne = refl
