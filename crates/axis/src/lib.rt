@@ -1,4 +1,6 @@
 // What every kind of axis is: one motor on one coil, driven by eight bytes a cycle.
+#![tactic(auto)]
+
 ghost use Rattle.std.specs.Prelude.{◌≡◌, ℕ, true, List, length};
 ghost use Rattle.axis.specs.Kinds.{Cycled, Kind, Seen, seen};
 ghost use Rattle.axis.specs.declared.AxisFault.TheVariants.{Coil};

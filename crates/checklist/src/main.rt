@@ -1,4 +1,6 @@
 // Makes the checks of a spare module, and prints each reading and a summary. A bad reading is a failure.
+#![tactic(auto)]
+
 use checks::Summary;
 
 fn run(rt: &HostRuntime) -> anyhow::Result<()> {

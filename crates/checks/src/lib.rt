@@ -1,4 +1,6 @@
 // The checks of a spare module: each runs a module, and gives what it reads beside what a good module reads.
+#![tactic(auto)]
+
 ghost use Rattle.std.specs.Prelude.{◌≡◌, Ok, MatchResult};
 ghost use Rattle.checks.specs.Bench.{bench, configured, fresh, maximum_set};
 ghost use Rattle.checks.specs.Good.{all_readings, full_turn, maximum_current, no_current, there_and_back};

@@ -1,4 +1,6 @@
 // What a coil is, the calls that every coil driver takes, and a plain driver that keeps two coils.
+#![tactic(auto)]
+
 ghost use Rattle.std.specs.Prelude.{◌≡◌, ◌≤◌, pos, neg_ℤ, ◌≤ℤ◌};
 ghost use Rattle.coil.specs.Chains.{Did, Tried, on};
 ghost use Rattle.coil.specs.Meaning.{Coils, Sound, at, put, declines_advance, declines_feed, advanced, fed, reported, acknowledged, answered};

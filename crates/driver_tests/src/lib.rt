@@ -1,4 +1,6 @@
 // The bridge driver and the layers by example: the table, levels round a turn, and piles.
+#![tactic(auto)]
+
 #[cfg(test)]
 mod tests {
     use bridge::{BridgeDriver, Levels, quarter_wave};

@@ -1,4 +1,6 @@
 // Coil drivers: each keeps the rules of a coil driver, and tells something of its own.
+#![tactic(auto)]
+
 mod pulse;
 
 use coil::CoilDriver;

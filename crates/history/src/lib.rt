@@ -1,4 +1,6 @@
 // Lists of calls of a module, and running one from the making of the module to its end.
+#![tactic(auto)]
+
 ghost use Rattle.std.specs.Prelude.{map};
 ghost use Rattle.history.specs.Lists.{asked as asks, buffer, operated as call_event, prepared as set_event};
 ghost use Rattle.history.specs.Ran.{Once, Passed, Ran};

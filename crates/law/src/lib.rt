@@ -1,4 +1,6 @@
 // The law over whole runs, on the call that runs two histories side by side.
+#![tactic(auto)]
+
 ghost use Rattle.history.specs.Ran.{Ran};
 ghost use Rattle.law.specs.Law.{CountsAddUp, EqualSumsLeaveEqualCounts, MotorsAreIndependent, SupplyHolds};
 ghost use Rattle.law.specs.Whole.{whole};

@@ -1,4 +1,6 @@
 // Layers: drivers over any driver below, in piles of any height.
+#![tactic(auto)]
+
 mod laws;
 mod reversal;
 mod zero_shift;

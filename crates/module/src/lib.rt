@@ -1,4 +1,6 @@
 // The two-motor module: prepared, started, then run by cycles.
+#![tactic(auto)]
+
 ghost use Rattle.std.specs.Prelude.{◌≡◌, length};
 ghost use Rattle.coil.specs.Meaning.{at};
 ghost use Rattle.coil.specs.declared.CoilId.TheVariants.{First, Second};

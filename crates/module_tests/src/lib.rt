@@ -1,4 +1,6 @@
 // The module by example: each refusal with its number and what it leaves, the supply, the word layout, and a trip.
+#![tactic(auto)]
+
 #[cfg(test)]
 mod tests {
     use axis::{Axis, AxisFault};

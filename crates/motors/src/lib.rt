@@ -1,4 +1,6 @@
 // The two motors of a module over their driver: settings, cycles, reports and acknowledgements, whatever the kind of axis.
+#![tactic(auto)]
+
 mod calls;
 mod inner;
 mod motor;

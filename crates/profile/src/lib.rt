@@ -1,4 +1,6 @@
 // The speed of a motor that ramps to its target: as fast as it may go and still stop there.
+#![tactic(auto)]
+
 ghost use Rattle.std.specs.Prelude.{◌≡◌, ◌^◌, pos, ◌-ℤ◌, neg_ℤ, ◌≤ℤ◌};
 ghost use Rattle.profile.specs.Course.{CourseStands};
 ghost use Rattle.profile.specs.Laws.{RuleStands};

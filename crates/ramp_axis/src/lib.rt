@@ -1,4 +1,6 @@
 // One motor driven by a set-point: drive state, targets, speed and move, in this order each cycle.
+#![tactic(auto)]
+
 ghost use Rattle.std.specs.Prelude.{◌≡◌, length};
 ghost use Rattle.ramp_axis.specs.Cycles.{Advanced, Commanded, answer_bytes, ramp_kind, flags_after, speed_after, state_after, targets_after};
 ghost use Rattle.ramp_axis.specs.Orders.{orders_in};

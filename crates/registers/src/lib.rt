@@ -1,4 +1,6 @@
 // The register tables of the function models: what each register sets, and when it is open.
+#![tactic(auto)]
+
 ghost use Rattle.std.specs.Prelude.{◌≡◌, List};
 ghost use Rattle.registers.specs.Tables.{Line, is_open, look_up, step_lines};
 

@@ -1,4 +1,6 @@
 // One motor driven by step words: up to four words a cycle, each with signed steps and a current code.
+#![tactic(auto)]
+
 ghost use Rattle.std.specs.Prelude.{◌≡◌, ◌<◌, [], ◌∷◌, length, pos, neg_ℤ, ◌≤ℤ◌};
 ghost use Rattle.coil.specs.Meaning.{at as coil_at};
 ghost use Rattle.step_axis.specs.Taken.{Took, answer_bytes, code_after, ending, step_kind, steps_taken, word_ending};

@@ -1,4 +1,6 @@
 // The one supply of both coils.
+#![tactic(auto)]
+
 ghost use Rattle.std.specs.Prelude.{◌≡◌};
 ghost use Rattle.coil.specs.declared.CoilId.TheVariants.{First, Second};
 ghost use Rattle.supply.specs.Shares.{granted};

@@ -3,12 +3,12 @@ use Rattle.coil.specs.Meaning.{cleared}
 use Rattle.coil.proofs.Flags.{cleared_below, cleared_tripped}
 use Rattle.coil.proofs.state.CoilState.clear.Goals as goal
 
-pub invariant-of-self : goal.invariant-of-self
+pub invariant_of-self : goal.invariant_of-self
 unfolding cleared
-invariant-of-self c =
+invariant_of-self c =
     let f = c.args.self.now.flags in
     let s = c.args.self.now.sound in
-    ((s.0, s.1, cleared_below f, λ e. s.3 (cleared_tripped f s.2 e)), tt)
+    record { sound = (s.0, s.1, cleared_below f, λ e. s.3 (cleared_tripped f s.2 e)) }
 
 pub returns : goal.returns
 unfolding cleared
