@@ -5,18 +5,18 @@ use Rattle.step_axis.proofs.Taking.{is_accepted, is_declined, not_taken_off, too
 use Rattle.step_axis.specs.Words.{code}
 use Rattle.step_axis.proofs.take_word.Goals as goal
 
-pub returns-in-err-advance : goal.returns-in-err-advance
-returns-in-err-advance g c =
+pub returns-in_err-advance : goal.returns-in_err-advance
+returns-in_err-advance g c =
     let flags = (at (g.D.CoilDriver.meaning c.args.driver.now) c.args.coil).flags in
-    let t : tripped flags ≡ true = is_declined (tripped flags) flags c.advance.result _ c.advance.ensures.answer c.in-err-advance.was in
+    let t : tripped flags ≡ true = is_declined (tripped flags) flags c.advance.result _ c.advance.ensures.answer c.in_err-advance.was in
     let p : is_powered (code c.args.word) ≡ true = search rules in
     record {
       took = took_declined g.D.CoilDriver.meaning g.D.CoilDriver.did c.args.coil _ c.args.word c.args.driver.now c.advance.new.self _ (g.met.D.CoilDriver.sound c.args.driver.now c.args.coil).count t c.advance.ensures.calls;
       ending = search rules;
     }
 
-pub returns-then-not-is-powered : goal.returns-then-not-is-powered
-returns-then-not-is-powered g c =
+pub returns-then-not-is_powered : goal.returns-then-not-is_powered
+returns-then-not-is_powered g c =
     let flags = (at (g.D.CoilDriver.meaning c.args.driver.now) c.args.coil).flags in
     let p : is_powered (code c.args.word) ≡ false = search rules in
     record {
@@ -27,7 +27,7 @@ returns-then-not-is-powered g c =
 pub returns : goal.returns
 returns g c =
     let flags = (at (g.D.CoilDriver.meaning c.args.driver.now) c.args.coil).flags in
-    let f : tripped flags ≡ false = is_accepted (tripped flags) flags c.advance.result _ c.advance.ensures.answer c.in-ok-advance.was in
+    let f : tripped flags ≡ false = is_accepted (tripped flags) flags c.advance.result _ c.advance.ensures.answer c.in_ok-advance.was in
     let p : is_powered (code c.args.word) ≡ true = search rules in
     record {
       took = took_one g.D.CoilDriver.meaning g.D.CoilDriver.did c.args.coil _ c.args.word c.args.driver.now c.advance.new.self p f (search rules) (search rules);
