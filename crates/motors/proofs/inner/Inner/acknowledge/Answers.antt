@@ -1,4 +1,4 @@
-use Rattle.std.proofs.Common.{sym, rules}
+use Rattle.std.proofs.Common.{sym, rules as std_rules}
 use Rattle.motors.proofs.Calling.{acknowledge_nobody, called_acknowledge, motor_is, no_motor}
 use Rattle.motors.specs.Share.{rules}
 use Rattle.motors.proofs.inner.Inner.acknowledge.Goals as goal
@@ -6,7 +6,7 @@ use Rattle.motors.proofs.inner.Inner.acknowledge.Goals as goal
 pub returns-in-err-coil : goal.returns-in-err-coil
 returns-in-err-coil g c =
     let z = no_motor c.args.motor c.in-err-coil.field-0.0 (sym c.in-err-coil.ensures) in
-    acknowledge_nobody (rules g.A.Axis.kind g.A.Model.lines) g.D.CoilDriver.meaning g.D.CoilDriver.did c.args.motor c.args.self.now c.from-residual.result (search rules) z.0 z.1
+    acknowledge_nobody (rules g.A.Axis.kind g.A.Model.lines) g.D.CoilDriver.meaning g.D.CoilDriver.did c.args.motor c.args.self.now c.from-residual.result (search std_rules) z.0 z.1
 
 pub returns : goal.returns
 returns g c =

@@ -1,4 +1,4 @@
-use Rattle.std.proofs.Common.{◌≡◌, true, false, ltb, sym, ◌∙◌, rules}
+use Rattle.std.proofs.Common.{◌≡◌, true, false, ltb, sym, ◌∙◌, rules as std_rules}
 use Rattle.motors.proofs.Calling.{called_report, motor_is, no_motor, report_flags, report_nobody}
 use Rattle.motors.specs.Effects.{number}
 use Rattle.motors.specs.Share.{rules}
@@ -7,14 +7,14 @@ use Rattle.motors.proofs.inner.Inner.report.Goals as goal
 pub returns-in-err-coil : goal.returns-in-err-coil
 returns-in-err-coil g c =
     let z = no_motor c.args.motor c.in-err-coil.field-0.0 (sym c.in-err-coil.ensures) in
-    report_nobody (rules g.A.Axis.kind g.A.Model.lines) g.D.CoilDriver.meaning g.D.CoilDriver.did c.args.motor c.args.flags c.args.self.now c.from-residual.result (search rules) z.0 z.1
+    report_nobody (rules g.A.Axis.kind g.A.Model.lines) g.D.CoilDriver.meaning g.D.CoilDriver.did c.args.motor c.args.flags c.args.self.now c.from-residual.result (search std_rules) z.0 z.1
 
 pub returns-then-flags-ge16 : goal.returns-then-flags-ge16
 returns-then-flags-ge16 g c =
-    let high : ltb c.args.flags 16 ≡ false = search rules in
+    let high : ltb c.args.flags 16 ≡ false = search std_rules in
     report_flags (rules g.A.Axis.kind g.A.Model.lines) g.D.CoilDriver.meaning g.D.CoilDriver.did c.in-ok-coil.coil c.args.motor c.args.flags c.args.self.now (motor_is c.args.motor c.in-ok-coil.coil (sym c.in-ok-coil.ensures)) high
 
 pub returns : goal.returns
 returns g c =
-    let low : ltb c.args.flags 16 ≡ true = search rules in
+    let low : ltb c.args.flags 16 ≡ true = search std_rules in
     called_report (rules g.A.Axis.kind g.A.Model.lines) g.D.CoilDriver.meaning g.D.CoilDriver.did c.in-ok-coil.coil c.args.motor c.args.flags c.args.self.now c.note.new.self (motor_is c.args.motor c.in-ok-coil.coil (sym c.in-ok-coil.ensures)) low c.note.ensures.after c.note.ensures.calls
