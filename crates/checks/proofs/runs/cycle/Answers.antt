@@ -7,6 +7,6 @@ use Rattle.checks.proofs.runs.cycle.Goals as goal
 
 pub returns : goal.returns
 returns c =
-    let orders : vec_items c.in-ok-orders.orders ≡ word_record 0x8064 0x80C8 = c.in-ok-orders.ensures.items ∙ c.words.ensures in
-    let room : vec_len c.in-ok-answer.answer ≡ 16 = c.in-ok-answer.ensures.len in
-    ap (λ os. record { stage = Running; asked = cycle os (vec_len c.in-ok-answer.answer) }) orders ∙ ap (λ n. record { stage = Running; asked = cycle (word_record 0x8064 0x80C8) n }) room
+    let orders : vec_items c.in_ok-orders.orders ≡ word_record 0x8064 0x80C8 = c.in_ok-orders.ensures.items ∙ c.words.ensures in
+    let room : vec_len c.in_ok-answer.answer ≡ 16 = c.in_ok-answer.ensures.len in
+    ap (λ os. record { stage = Running; asked = cycle os (vec_len c.in_ok-answer.answer) }) orders ∙ ap (λ n. record { stage = Running; asked = cycle (word_record 0x8064 0x80C8) n }) room

@@ -4,13 +4,13 @@ use Rattle.checks.specs.declared.summary.Summary.{Summary}
 use Rattle.std.proofs.lemmas.List.{take_all}
 use Rattle.std.proofs.lemmas.List.Sums.{count_by_more_no, count_by_more_yes}
 use Rattle.checks.proofs.summary.Summary.of.Goals as goal
-use Rattle.checks.proofs.summary.Summary.of.Goals.{then-is-good, else-is-good}
+use Rattle.checks.proofs.summary.Summary.of.Goals.{then-is_good, else-is_good}
 
 pub loop-reading-preserved : goal.loop-reading-preserved
 loop-reading-preserved c =
-    elim c.if-is-good.branch [
-      | then-is-good w ↦ (w.good-is ∙ ap (λ n. n + 1) c.loop-reading.invariant.0 ∙ sym (count_by_more_yes (λ (x : Reading). eqb x.read x.good) c.args.readings.now c.loop-reading.reading-index _ c.loop-reading-test.true (sym c.is-good.ensures ∙ w.if-is-good.true)), omega (arith, w.good-is, c.loop-reading.invariant.1))
-      | else-is-good w ↦ (w.good-is ∙ c.loop-reading.invariant.0 ∙ sym (count_by_more_no (λ (x : Reading). eqb x.read x.good) c.args.readings.now c.loop-reading.reading-index _ c.loop-reading-test.true (sym c.is-good.ensures ∙ w.if-is-good.false)), omega (arith, w.good-is, c.loop-reading.invariant.1))
+    elim c.if-is_good.branch [
+      | then-is_good w ↦ (w.good-is ∙ ap (λ n. n + 1) c.loop-reading.invariant.0 ∙ sym (count_by_more_yes (λ (x : Reading). eqb x.read x.good) c.args.readings.now c.loop-reading.reading-index _ c.loop-reading-test.true (sym c.is_good.ensures ∙ w.if-is_good.true)), omega (arith, w.good-is, c.loop-reading.invariant.1))
+      | else-is_good w ↦ (w.good-is ∙ c.loop-reading.invariant.0 ∙ sym (count_by_more_no (λ (x : Reading). eqb x.read x.good) c.args.readings.now c.loop-reading.reading-index _ c.loop-reading-test.true (sym c.is_good.ensures ∙ w.if-is_good.false)), omega (arith, w.good-is, c.loop-reading.invariant.1))
     ]
 
 pub returns : goal.returns
