@@ -7,7 +7,7 @@ use Rattle.drivers.specs.Pulsed.{Pulsed, pulse_meaning}
 use Rattle.drivers.specs.declared.pulse.PulseDriver.{PulseDriver}
 use Rattle.history.specs.Lists.{Answered, Event, events, operated, operation, preparation, prepared, queries, running, tolds}
 use Rattle.history.specs.Ran.{Ran}
-use Rattle.history.specs.Stands.{Told, first_stand, stands, tells}
+use Rattle.history.specs.Stands.{first_stand, stands, tells}
 use Rattle.history.specs.declared.Call.{Call}
 use Rattle.history.specs.declared.Entry.{Entry}
 use Rattle.history.specs.declared.History.{History}

@@ -1,5 +1,5 @@
 -- One cycle with a word for each motor, as a step from stand to stand.
-use Rattle.std.proofs.Common.{◌≡◌, ℕ, ◌+◌, true, List, ◌++◌, drop, pos, is_ok, sym, refl, ap, ◌∙◌, subst, add-one, take-append-drop}
+use Rattle.std.proofs.Common.{◌≡◌, ℕ, ◌+◌, true, List, ◌++◌, drop, pos, is_ok, sym, ap, ◌∙◌, subst, add-one, take-append-drop}
 use Rattle.checks.specs.Bench.{answer_to, bench, fresh, last_answer, prepared, sent, sent_times, step_rules, word_record}
 use Rattle.coil.specs.Meaning.{new_coil}
 use Rattle.coil.specs.declared.CoilId.TheVariants.{First, Second}

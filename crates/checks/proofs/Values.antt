@@ -1,5 +1,5 @@
 -- What a call gave, from what it must give.
-use Rattle.std.proofs.Common.{◌≡◌, ℕ, Ok, Result, sym, ap, ◌∙◌}
+use Rattle.std.proofs.Common.{◌≡◌, ℕ, Ok, Result, ap, ◌∙◌}
 use Rattle.checks.specs.Good.{reads}
 use Rattle.checks.specs.declared.reading.Quantity.{Quantity}
 use Rattle.checks.specs.declared.reading.Reading.{Reading}

@@ -1,7 +1,7 @@
 -- Sums modulo n: to take the remainder on the way changes nothing, and the numbers' own wrapping sums are such sums.
 use Rattle.std.proofs.Common.{◌≡◌, ℕ, zero, suc, ◌+◌, ◌-◌, ◌*◌, ◌%◌, ◌^◌, ◌<◌, ◌≤◌, ℤ, pos, negsuc, ◌+ℤ◌, nat_abs, sym, refl, ap, ◌∙◌, arith, w8, w16, w32, w64, SFits, of_z}
 use mir.Syntax.{Width, w128}
-use mir.Val.{bits, hbits}
+use mir.Val.{bits}
 use native.Mathlib.Nat.{mod-add-mod}
 use Rattle.std.proofs.lemmas.Int.{ints, int_rem_euclid_is}
 use Rattle.std.specs.Int.{int_rem_euclid}

@@ -1,5 +1,5 @@
 -- Which accepted calls led from one value of a driver to another. Assumes nothing.
-use Rattle.std.specs.Prelude.{◌≡◌, Bool, true, false, List, [], ◌∷◌, map}
+use Rattle.std.specs.Prelude.{◌≡◌, Bool, true, false, List, [], ◌∷◌}
 use Rattle.coil.specs.declared.CoilCall.{CoilCall}
 use Rattle.coil.specs.declared.CoilId.{CoilId}
 use Rattle.coil.specs.declared.DriverCall.{DriverCall}

@@ -1,5 +1,5 @@
 -- What a coil is, and what each call of a driver makes of it. Assumes nothing.
-use Rattle.std.specs.Prelude.{◌≡◌, ℕ, ◌+◌, ◌^◌, ◌<◌, ◌≤◌, Bool, true, false, cond, not, ◌&&◌, ℤ, pos, ◌+ℤ◌, Ok, Err, Result, ◌==◌, bit_and, bit_or, refl}
+use Rattle.std.specs.Prelude.{◌≡◌, ℕ, ◌+◌, ◌^◌, ◌<◌, ◌≤◌, Bool, true, cond, not, ◌&&◌, ℤ, pos, ◌+ℤ◌, Ok, Err, Result, ◌==◌, bit_and, bit_or, refl}
 use Rattle.coil.specs.Modulo.{modulo}
 use Rattle.coil.specs.declared.CoilFault.{CoilFault}
 use Rattle.coil.specs.declared.CoilFault.TheVariants.{Tripped}

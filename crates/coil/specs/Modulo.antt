@@ -1,5 +1,5 @@
 -- Whole numbers modulo n. Assumes nothing.
-use Rattle.std.specs.Prelude.{ℕ, suc, ◌-◌, ◌%◌, ℤ, pos, negsuc}
+use Rattle.std.specs.Prelude.{ℕ, ◌-◌, ◌%◌, ℤ, pos, negsuc}
 
 -- the remainder of z, from 0 to n - 1
 unfoldable pub modulo : ℕ → ℤ → ℕ

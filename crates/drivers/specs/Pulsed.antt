@@ -7,7 +7,6 @@ use Rattle.coil.specs.declared.CoilCall.{CoilCall}
 use Rattle.coil.specs.declared.CoilCall.TheVariants.{Advance, Feed, Note, Clear}
 use Rattle.coil.specs.declared.CoilId.{CoilId}
 use Rattle.coil.specs.declared.CoilId.TheVariants.{First, Second}
-use Rattle.coil.specs.declared.DriverCall.{DriverCall}
 use Rattle.drivers.specs.declared.pulse.Direction.{Direction}
 use Rattle.drivers.specs.declared.pulse.Direction.TheVariants.{Forward, Backward}
 use Rattle.drivers.specs.declared.pulse.PulseDriver.{PulseDriver}

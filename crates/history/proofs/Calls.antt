@@ -1,15 +1,13 @@
 -- One call of a module, as a step from stand to stand.
-use Rattle.std.proofs.Common.{◌≡◌, ℕ, Bool, true, false, cond, eqb, List, [], length, ℤ, is_ok, is_err, Some, None, Ok, Err, Option, sym, refl, ap, ◌∙◌, subst, arith}
-use Rattle.coil.specs.Chains.{Chain, Did}
+use Rattle.std.proofs.Common.{◌≡◌, ℕ, Bool, true, false, cond, eqb, List, [], length, ℤ, is_ok, Some, None, Ok, Err, sym, refl, ap, ◌∙◌, subst}
+use Rattle.coil.specs.Chains.{Did}
 use Rattle.coil.specs.Meaning.{Coils, at}
 use Rattle.coil.specs.declared.CoilId.{CoilId}
 use Rattle.coil.specs.declared.CoilId.TheVariants.{First, Second}
-use Rattle.axis.specs.Kinds.{Kind}
 use Rattle.history.specs.Lists.{Event, asked, buffer, half_told}
 use Rattle.history.specs.Ran.{Once}
-use Rattle.history.specs.Stands.{Query, Stand, Standing, Told, given, share_after, stand, stand_after, told}
+use Rattle.history.specs.Stands.{Query, Stand, given, share_after, stand, stand_after}
 use Rattle.history.specs.declared.Call.{Call}
-use Rattle.history.specs.declared.Call.TheVariants as calls
 use Rattle.module.specs.Called.{Called, Filled}
 use Rattle.module.specs.Effects.{Answer, Asked, answer, cycle, deed, half, length_answer, outcome, points_after, setting}
 use Rattle.module.specs.Share.{Rules, Share, share, wanted}

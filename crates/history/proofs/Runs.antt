@@ -1,12 +1,11 @@
 -- A list of calls in the midst of its run.
-use Rattle.std.proofs.Common.{◌≡◌, ℕ, zero, suc, ◌+◌, ◌-◌, ◌<◌, ◌≤◌, true, List, [], ◌∷◌, ◌++◌, map, length, get_or, take, drop, set, is_err, sym, refl, ap, ◌∙◌, subst, append_assoc, arith, length-drop}
+use Rattle.std.proofs.Common.{◌≡◌, ℕ, zero, suc, ◌+◌, ◌<◌, ◌≤◌, true, List, [], ◌∷◌, ◌++◌, map, length, get_or, take, drop, set, is_err, sym, refl, ap, ◌∙◌, subst, append_assoc, arith, length-drop}
 use Rattle.coil.proofs.Chained.{chain_append}
 use Rattle.coil.specs.Chains.{Chain, Did}
 use Rattle.coil.specs.Meaning.{Coils}
-use Rattle.coil.specs.declared.DriverCall.{DriverCall}
 use Rattle.history.specs.Lists.{Answered, Event, queries, tolds}
 use Rattle.history.specs.Ran.{Once, Passed}
-use Rattle.history.specs.Stands.{Query, Stand, Told, drives, stand, stand_after, stands, tells, told}
+use Rattle.history.specs.Stands.{Query, Stand, drives, stand, stands, tells, told}
 use Rattle.module.specs.Effects.{calls}
 use Rattle.module.specs.Share.{Rules}
 use Rattle.module.specs.declared.inner.Inner.{Inner}

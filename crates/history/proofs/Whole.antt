@@ -1,15 +1,14 @@
 -- A whole history: preparation, then, if the module was started, the calls that follow.
-use Rattle.std.proofs.Common.{◌≡◌, ℕ, List, [], ◌∷◌, ◌++◌, map, Some, None, vec_items, Option, Vec, sym, refl, ap, ◌∙◌, subst, append_assoc}
+use Rattle.std.proofs.Common.{◌≡◌, List, [], ◌∷◌, ◌++◌, map, Some, None, vec_items, Option, Vec, sym, refl, ap, ◌∙◌, subst, append_assoc}
 use Rattle.axis.specs.Kinds.{Kind}
 use Rattle.coil.proofs.Chained.{chain_append}
 use Rattle.coil.specs.Chains.{Chain, Did}
 use Rattle.coil.specs.Meaning.{Coils}
 use Rattle.coil.specs.declared.CoilId.TheVariants.{First, Second}
-use Rattle.coil.specs.declared.DriverCall.{DriverCall}
 use Rattle.history.proofs.Calls.{same_stand}
 use Rattle.history.specs.Lists.{Answered, Event, events, operated, operation, preparation, prepared, queries, running, tolds}
 use Rattle.history.specs.Ran.{BothStarted, Passed, Ran}
-use Rattle.history.specs.Stands.{Query, Stand, Told, drives, first_stand, stand, stand_after, stands, tells, told}
+use Rattle.history.specs.Stands.{Query, Stand, drives, first_stand, stand, stand_after, stands, tells, told}
 use Rattle.history.specs.declared.Call.{Call}
 use Rattle.history.specs.declared.Entry.{Entry}
 use Rattle.history.specs.declared.History.{History}

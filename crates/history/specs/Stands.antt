@@ -1,5 +1,5 @@
 -- How a module stands after any list of calls, and what it tells of each. Assumes nothing.
-use Rattle.std.specs.Prelude.{ℕ, Bool, true, false, cond, List, [], ◌∷◌, ◌++◌, length, Some, None, Option, ◌==◌}
+use Rattle.std.specs.Prelude.{ℕ, cond, List, [], ◌∷◌, ◌++◌, length, Some, None, Option, ◌==◌}
 use Rattle.axis.specs.Kinds.{Kind}
 use Rattle.coil.specs.Meaning.{Coil, Coils, at}
 use Rattle.coil.specs.declared.CoilId.{CoilId}

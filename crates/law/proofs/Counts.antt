@@ -1,11 +1,11 @@
 -- With step words a count is the first count plus the words taken.
-use Rattle.std.proofs.Common.{◌≡◌, ℕ, ◌+◌, ◌^◌, ◌<◌, List, [], ◌∷◌, ℤ, pos, ◌+ℤ◌, ◌*ℤ◌, sym, refl, ap, ◌∙◌, add-zero, mod-eq_of_lt, arith, lit<}
+use Rattle.std.proofs.Common.{◌≡◌, ℕ, ◌^◌, ◌<◌, List, [], ◌∷◌, ℤ, pos, ◌+ℤ◌, ◌*ℤ◌, sym, ap, ◌∙◌, add-zero, mod-eq_of_lt, arith, lit<}
 use Rattle.coil.proofs.Wraps.{modulo_below, modulo_onto}
 use Rattle.coil.specs.Modulo.{modulo}
 use Rattle.coil.specs.declared.CoilId.{CoilId}
 use Rattle.law.specs.Deeds.{ending, microsteps_taken}
 use Rattle.module.specs.Effects.{Deed, acknowledges, after, misses, moves, reports, sets, starts}
-use Rattle.module.specs.Share.{Rules, Share, rules}
+use Rattle.module.specs.Share.{Share, rules}
 use Rattle.registers.specs.Tables.{step_lines}
 use Rattle.std.proofs.lemmas.Int.{ints}
 use Rattle.step_axis.specs.Taken.{step_kind, steps_taken}

@@ -1,11 +1,10 @@
 -- What one motor hears and how it stands follows from what was done to it alone.
 use Rattle.std.proofs.Common.{◌≡◌, ℕ, Bool, true, false, cond, eqb, List, [], ◌∷◌, ◌++◌, length, ℤ, Some, None, Ok, Err, Option, sym, refl, ap, ◌∙◌, eqb-true}
-use Rattle.axis.specs.Kinds.{Kind}
 use Rattle.coil.specs.declared.CoilId.{CoilId}
 use Rattle.coil.specs.declared.CoilId.TheVariants.{First, Second}
-use Rattle.history.specs.Stands.{Query, Stand, Told, given, motor, stand_after, stands, tells, told}
+use Rattle.history.specs.Stands.{Query, Stand, given, motor, stand_after, stands, tells, told}
 use Rattle.law.specs.Deeds.{Reply, deeds_of, ending, heard, heard_one, more, reply_to}
-use Rattle.module.specs.Effects.{Answer, Asked, Deed, acknowledgement, acknowledges, addressee, after, answer, concerns, cycle, cycle_deed, deed, flags_answer, half, length_answer, lives, misses, motor_answer, motor_deed, moves, number, outcome, report, reports, set_deed, set_motor, sets, setting, setting_answer, starts, value_answer}
+use Rattle.module.specs.Effects.{Answer, Asked, Deed, acknowledgement, acknowledges, addressee, after, answer, concerns, cycle, cycle_deed, deed, flags_answer, half, length_answer, lives, misses, motor_answer, motor_deed, moves, outcome, report, reports, set_deed, set_motor, sets, setting, setting_answer, starts, value_answer}
 use Rattle.module.specs.Share.{Rules, Share, powered}
 use Rattle.refusal.specs.declared.Refusal.TheVariants.{AnswerLength, Closed, RecordLength, UnknownMotor}
 use Rattle.registers.specs.Tables.{Line, is_open, look_up}

@@ -1,20 +1,20 @@
 -- The law, from what running a history promises.
-use Rattle.std.proofs.Common.{◌≡◌, ℕ, ◌+◌, ◌^◌, ◌<◌, ◌≤◌, min, Bool, true, List, [], ◌∷◌, ◌++◌, ℤ, pos, ◌+ℤ◌, Some, None, Option, sym, refl, ap, ◌∙◌, subst, arith}
+use Rattle.std.proofs.Common.{◌≡◌, ℕ, ◌+◌, ◌^◌, ◌<◌, ◌≤◌, min, Bool, true, List, ◌∷◌, ◌++◌, pos, ◌+ℤ◌, Some, None, Option, sym, refl, ap, ◌∙◌, subst, arith}
 use Rattle.coil.specs.Chains.{Did}
-use Rattle.coil.specs.Meaning.{Coil, Coils, Sound, at}
+use Rattle.coil.specs.Meaning.{Coils, Sound, at}
 use Rattle.coil.specs.Modulo.{modulo}
 use Rattle.coil.specs.declared.CoilId.{CoilId}
 use Rattle.coil.specs.declared.CoilId.TheVariants.{First, Second}
-use Rattle.history.specs.Lists.{Event, events, operation, preparation, queries, running, tolds}
-use Rattle.history.specs.Ran.{Ran, end_stand}
-use Rattle.history.specs.Stands.{Query, Stand, Standing, Told, coil, first_stand, motor, stand, stands, tells}
+use Rattle.history.specs.Lists.{Event, events, operation, preparation, queries, running}
+use Rattle.history.specs.Ran.{Ran}
+use Rattle.history.specs.Stands.{Query, Stand, first_stand, motor, stand, stands, tells}
 use Rattle.history.specs.declared.History.{History}
 use Rattle.law.proofs.Counts.{counts}
 use Rattle.law.proofs.Heard.{deeds_append, ending_append, heard_tells, own_stands, replies, replies_start}
 use Rattle.law.proofs.Rested.{step_rests}
-use Rattle.law.proofs.Supply.{AllFine, Fine, Sane, all_fine, quiet_start}
-use Rattle.law.specs.Deeds.{Reply, deeds_of, ending, heard, microsteps_taken, quiet}
-use Rattle.law.specs.Law.{CountsAddUp, Done, EqualSumsLeaveEqualCounts, MotorsAreIndependent, Run, Shown, SupplyHolds, called, deeds, done_to, lines_of, shown_by, started, travel, wanted_points}
+use Rattle.law.proofs.Supply.{AllFine, Fine, all_fine, quiet_start}
+use Rattle.law.specs.Deeds.{Reply, deeds_of, ending, heard, quiet}
+use Rattle.law.specs.Law.{CountsAddUp, EqualSumsLeaveEqualCounts, MotorsAreIndependent, Run, Shown, SupplyHolds, called, deeds, shown_by, started, travel}
 use Rattle.law.specs.Whole.{whole}
 use Rattle.law.specs.declared.FunctionModel.{FunctionModel}
 use Rattle.law.specs.declared.FunctionModel.TheVariants.{StepWords}
@@ -26,7 +26,6 @@ use Rattle.registers.specs.Tables.{step_lines}
 use Rattle.std.proofs.lemmas.List.{map-append}
 use Rattle.std.specs.Option.{option_map}
 use Rattle.step_axis.specs.Taken.{step_kind}
-use Rattle.step_axis.specs.Words.{first_config}
 use Rattle.step_axis.specs.declared.StepAxis.{StepAxis}
 use Rattle.step_axis.specs.declared.config.StepConfig.{StepConfig}
 

@@ -1,6 +1,5 @@
 -- A step axis on a tripped coil chooses no current.
 use Rattle.std.proofs.Common.{◌≡◌, ℕ, Bool, true, false, cond, ◌&&◌, ◌||◌, List, [], ◌∷◌, Ok, Err, sym, refl, ap, ◌∙◌}
-use Rattle.axis.specs.Kinds.{Seen}
 use Rattle.axis.specs.Levels.{is_powered}
 use Rattle.axis.specs.declared.AxisFault.TheVariants as fault
 use Rattle.axis.specs.declared.currents.Current.{Current}
@@ -10,7 +9,6 @@ use Rattle.coil.specs.declared.CoilFault.TheVariants.{Tripped}
 use Rattle.law.proofs.Supply.{Rests, never}
 use Rattle.step_axis.specs.Taken.{code_after, declined, ending, step_kind}
 use Rattle.step_axis.specs.Words.{code, counted, last_word, word}
-use Rattle.step_axis.specs.declared.StepAxis.{StepAxis}
 use Rattle.step_axis.specs.declared.config.StepConfig.{StepConfig}
 use Rattle.step_axis.specs.declared.config.WordCount.{WordCount}
 use Rattle.step_axis.specs.declared.config.WordCount.TheVariants.{One, Two, Four}

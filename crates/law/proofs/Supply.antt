@@ -1,18 +1,18 @@
 -- The supply holds after any list of calls.
-use Rattle.std.proofs.Common.{◌≡◌, ℕ, ◌+◌, ◌-◌, ◌<◌, ◌≤◌, min, Bool, true, false, cond, eqb, ltb, leb, List, [], ◌∷◌, ◌++◌, length, ℤ, pos, negsuc, Some, None, Option, sym, refl, ap, ◌∙◌, subst, arith, ltb-true, leb-true}
+use Rattle.std.proofs.Common.{◌≡◌, ℕ, ◌+◌, ◌≤◌, min, Bool, true, false, cond, eqb, ltb, leb, List, [], ◌∷◌, ◌++◌, length, ℤ, pos, negsuc, Some, None, Option, sym, refl, ap, ◌∙◌, subst, arith, ltb-true, leb-true}
 use Rattle.axis.specs.Kinds.{Kind, Seen}
-use Rattle.axis.specs.Levels.{Levels, chosen, is_powered, no_levels, points_from, with_level}
+use Rattle.axis.specs.Levels.{Levels, chosen, is_powered, points_from, with_level}
 use Rattle.axis.specs.declared.currents.Current.{Current}
 use Rattle.axis.specs.declared.currents.Current.TheVariants.{Off, Holding, Nominal, Maximum}
 use Rattle.axis.specs.declared.currents.CurrentSetting.{CurrentSetting}
 use Rattle.axis.specs.declared.currents.CurrentSetting.TheVariants as setting_of
 use Rattle.coil.proofs.Flags.{clear_tripped, report_tripped}
-use Rattle.coil.specs.Meaning.{Coil, cleared, noted, tripped}
+use Rattle.coil.specs.Meaning.{Coil, noted, tripped}
 use Rattle.coil.specs.declared.CoilId.{CoilId}
 use Rattle.coil.specs.declared.CoilId.TheVariants.{First, Second}
-use Rattle.history.specs.Stands.{Query, Stand, Standing, coil, motor, share_after, stand_after, standing_after, stands}
+use Rattle.history.specs.Stands.{Query, Stand, Standing, coil, share_after, stand_after, stands}
 use Rattle.law.specs.Deeds.{deeds_of, more, quiet, quiet_after}
-use Rattle.module.specs.Effects.{Asked, Deed, acknowledgement, acknowledges, adjusted, after, concerns, currents_after, cycle, cycle_deed, deed, half, lives, misses, motor_deed, moves, number, outcome, points_after, report, reports, set_deed, sets, setting, starts, with_points}
+use Rattle.module.specs.Effects.{Asked, Deed, acknowledgement, acknowledges, adjusted, after, concerns, currents_after, cycle, deed, half, lives, misses, motor_deed, moves, number, points_after, report, reports, set_deed, sets, setting, starts, with_points}
 use Rattle.module.specs.Share.{Rules, Share, powered, wanted}
 use Rattle.registers.specs.Tables.{Line, is_open, look_up}
 use Rattle.registers.specs.declared.Register.{Register}

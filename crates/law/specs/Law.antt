@@ -1,21 +1,18 @@
 -- The law over whole runs: what went in and what came out, for every driver and every list of calls. Assumes nothing.
-use Rattle.std.specs.Prelude.{◌≡◌, ℕ, ◌+◌, ◌^◌, ◌≤◌, min, Bool, true, List, [], ◌∷◌, ◌++◌, ℤ, pos, ◌+ℤ◌, Some, None, Option}
+use Rattle.std.specs.Prelude.{◌≡◌, ℕ, ◌+◌, ◌^◌, ◌≤◌, min, true, List, [], ◌∷◌, ◌++◌, ℤ, pos, ◌+ℤ◌, Some, None, Option}
 use Rattle.coil.specs.Meaning.{Coil, Coils, at}
 use Rattle.coil.specs.Modulo.{modulo}
 use Rattle.coil.specs.declared.CoilId.{CoilId}
-use Rattle.history.specs.Lists.{operation}
 use Rattle.history.specs.Stands.{Query, Told}
 use Rattle.law.specs.Deeds.{Reply, deeds_of, ending, heard, microsteps_taken, quiet}
 use Rattle.law.specs.declared.FunctionModel.{FunctionModel}
 use Rattle.law.specs.declared.FunctionModel.TheVariants.{StepWords}
 use Rattle.module.specs.Effects.{Deed, starts}
-use Rattle.module.specs.Share.{Rules, born, rules, wanted}
+use Rattle.module.specs.Share.{born, rules, wanted}
 use Rattle.module.specs.declared.motor.Fault.{Fault}
 use Rattle.registers.specs.Tables.{Line, step_lines}
 use Rattle.step_axis.specs.Taken.{step_kind}
 use Rattle.step_axis.specs.Words.{first_config}
-use Rattle.step_axis.specs.declared.StepAxis.{StepAxis}
-use Rattle.step_axis.specs.declared.config.StepConfig.{StepConfig}
 
 -- a whole run, from the making of a module to its end
 pub record Run : Type 0 where

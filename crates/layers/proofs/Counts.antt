@@ -1,5 +1,5 @@
 -- Counts modulo 2 ^ 32: negated, raised by a shift, and stepped in between.
-use Rattle.std.proofs.Common.{◌≡◌, ℕ, zero, suc, ◌+◌, ◌%◌, ◌^◌, ◌<◌, ℤ, pos, negsuc, ◌+ℤ◌, neg_ℤ, sym, refl, ap, ◌∙◌, arith, lit<}
+use Rattle.std.proofs.Common.{◌≡◌, ℕ, zero, suc, ◌+◌, ◌%◌, ◌^◌, ◌<◌, ℤ, pos, ◌+ℤ◌, neg_ℤ, sym, refl, ap, ◌∙◌, arith, lit<}
 use Rattle.coil.proofs.Wraps.{modulo_below, modulo_onto}
 use Rattle.coil.specs.Meaning.{stepped}
 use Rattle.coil.specs.Modulo.{modulo}

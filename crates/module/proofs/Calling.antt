@@ -1,18 +1,17 @@
 -- The whole effect of each call, put together from what its steps do.
-use Rattle.std.proofs.Common.{◌≡◌, ℕ, ◌<◌, ◌≤◌, Bool, true, false, cond, eqb, ltb, ◌⊎◌, List, [], ◌∷◌, ◌++◌, length, ℤ, is_ok, is_err, Some, None, Ok, Err, Option, Result, unwrap_or, sym, refl, ap, ◌∙◌, subst, inl, inr, arith, eqb-true}
+use Rattle.std.proofs.Common.{◌≡◌, ℕ, Bool, true, false, cond, eqb, ltb, ◌⊎◌, List, [], ◌∷◌, ◌++◌, length, ℤ, is_err, Some, None, Ok, Err, Option, unwrap_or, sym, refl, ap, ◌∙◌, subst, inl, inr, arith, eqb-true}
 use Rattle.axis.specs.Kinds.{Kind}
 use Rattle.axis.specs.declared.currents.CurrentSetting.{CurrentSetting}
 use Rattle.coil.proofs.Chained.{chain_join}
 use Rattle.coil.specs.Chains.{Chain, Did, on}
-use Rattle.coil.specs.Meaning.{Coil, Coils, acknowledged, at, cleared, noted, put, reported, tripped}
+use Rattle.coil.specs.Meaning.{Coil, Coils, acknowledged, at, noted, put, reported, tripped}
 use Rattle.coil.specs.declared.CoilCall.TheVariants.{Clear, Note}
 use Rattle.coil.specs.declared.CoilId.{CoilId}
 use Rattle.coil.specs.declared.CoilId.TheVariants.{First, Second}
-use Rattle.coil.specs.declared.DriverCall.{DriverCall}
 use Rattle.module.proofs.Setting.{either_way}
 use Rattle.module.proofs.Turns.{at_put, at_put_other, same_share}
 use Rattle.module.specs.Called.{Adjusted, Called, Filled, Moved, Shared}
-use Rattle.module.specs.Effects.{Answer, Asked, Deed, acknowledgement, acknowledges, addressee, after, adjusted_share, answer, adjusted, calls, concerns, config_after, configured, currents_after, cycle, cycle_calls, cycle_deed, deed, feeds, flags_answer, in_range, half, length_answer, lives, misses, motor_answer, motor_deed, move_calls, moved_share, moves, note_calls, number, of_motor, outcome, points_after, report, reports, set_deed, set_motor, set_share, sets, setting, setting_answer, value_answer, with_config, with_currents}
+use Rattle.module.specs.Effects.{Answer, Asked, Deed, acknowledgement, acknowledges, addressee, after, answer, adjusted, calls, concerns, configured, cycle, cycle_calls, cycle_deed, deed, feeds, flags_answer, in_range, half, length_answer, lives, misses, motor_deed, move_calls, moved_share, moves, note_calls, number, of_motor, points_after, report, reports, set_deed, set_motor, set_share, sets, setting, setting_answer, value_answer, with_config, with_currents}
 use Rattle.module.specs.Share.{Rules, Share, motor_at, powered, share, share_of, wanted}
 use Rattle.module.specs.declared.inner.Inner.{Inner}
 use Rattle.refusal.specs.declared.Refusal.{Refusal}

@@ -1,16 +1,14 @@
 -- Both coils are fed, and neither declines.
-use Rattle.std.proofs.Common.{◌≡◌, ℕ, ◌-◌, ◌≤◌, min, Bool, true, false, cond, not, ◌&&◌, eqb, [], ◌∷◌, None, sym, refl, ap, ◌∙◌, subst, arith}
+use Rattle.std.proofs.Common.{◌≡◌, ℕ, Bool, true, false, cond, not, ◌&&◌, eqb, [], ◌∷◌, None, sym, refl, ap, ◌∙◌, subst, arith}
 use Rattle.axis.specs.Kinds.{Kind}
 use Rattle.axis.specs.Levels.{chosen, levels, no_levels}
-use Rattle.coil.specs.Chains.{Chain, Did, Tried, on}
+use Rattle.coil.specs.Chains.{Did, Tried, on}
 use Rattle.coil.specs.Meaning.{Coil, Coils, at, declines_feed, fed, put, tripped}
 use Rattle.coil.specs.declared.CoilCall.TheVariants.{Feed}
 use Rattle.coil.specs.declared.CoilId.{CoilId}
 use Rattle.coil.specs.declared.CoilId.TheVariants.{First, Second}
-use Rattle.coil.specs.declared.DriverCall.{DriverCall}
 use Rattle.module.proofs.Turns.{same_share}
 use Rattle.module.specs.Called.{Made, Rested, Shared}
-use Rattle.module.specs.Effects.{feeds}
 use Rattle.module.specs.Share.{born, share, share_of, wanted}
 use Rattle.module.specs.declared.inner.Inner.{Inner}
 use Rattle.module.specs.declared.motor.Motor.{Motor}

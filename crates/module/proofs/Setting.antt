@@ -1,7 +1,7 @@
 -- Settings: what each answer of the gate leaves.
-use Rattle.std.proofs.Common.{◌≡◌, ℕ, ◌<◌, Bool, true, false, cond, List, length, get_or, set, ℤ, is_err, Some, None, Ok, Err, Option, sym, refl, ap, ◌∙◌, subst, arith}
+use Rattle.std.proofs.Common.{◌≡◌, ℕ, ◌<◌, Bool, true, false, cond, length, get_or, set, ℤ, is_err, Some, None, Ok, Err, sym, refl, ap, ◌∙◌, arith}
 use Rattle.axis.specs.Kinds.{Kind}
-use Rattle.axis.specs.Levels.{Levels, is_powered, levels, points_from, with_level}
+use Rattle.axis.specs.Levels.{levels, points_from, with_level}
 use Rattle.axis.specs.declared.currents.CurrentSetting.{CurrentSetting}
 use Rattle.coil.specs.Meaning.{Coils, at}
 use Rattle.coil.specs.declared.CoilId.{CoilId}

@@ -1,19 +1,17 @@
 -- Both motors move, one after the other: neither shows in the other's share.
-use Rattle.std.proofs.Common.{◌≡◌, ℕ, zero, suc, ◌<◌, true, List, [], ◌∷◌, ◌++◌, map, length, get_or, set, Option, sym, refl, ap, ◌∙◌, subst, arith, get_or-set_other}
-use Rattle.axis.specs.Kinds.{Kind, Outcome, Seen, moved, seen}
+use Rattle.std.proofs.Common.{◌≡◌, ℕ, true, List, ◌++◌, set, Option, sym, refl, ap, ◌∙◌, subst, arith, get_or-set_other}
+use Rattle.axis.specs.Kinds.{Kind, Outcome, Seen, moved}
 use Rattle.axis.specs.Levels.{Levels, levels}
 use Rattle.axis.specs.declared.currents.Current.TheVariants.{Off}
 use Rattle.coil.proofs.Chained.{chain_join}
-use Rattle.coil.specs.Chains.{Chain, Did, on}
+use Rattle.coil.specs.Chains.{Did}
 use Rattle.coil.specs.Meaning.{Coil, Coils, at, put, tripped}
 use Rattle.coil.specs.declared.CoilId.{CoilId}
 use Rattle.coil.specs.declared.CoilId.TheVariants.{First, Second}
-use Rattle.coil.specs.declared.DriverCall.{DriverCall}
 use Rattle.module.specs.Called.{Moved, Rested, Turn}
 use Rattle.module.specs.Effects.{half, move_calls, moved_share, next_cycle, outcome}
-use Rattle.module.specs.Motors.{Turned, latest}
+use Rattle.module.specs.Motors.{latest}
 use Rattle.module.specs.Share.{Share, idle, motor_at, place, share}
-use Rattle.module.specs.declared.inner.Configuration.{Configuration}
 use Rattle.module.specs.declared.inner.Inner.{Inner}
 use Rattle.module.specs.declared.motor.Fault.{Fault}
 use Rattle.module.specs.declared.motor.Motor.{Motor}

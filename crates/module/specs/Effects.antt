@@ -1,16 +1,16 @@
 -- What each call of a module does to each motor, what it answers, and which driver calls it makes. Assumes nothing.
-use Rattle.std.specs.Prelude.{◌≡◌, ℕ, ◌+◌, ◌%◌, ◌^◌, Bool, true, false, cond, List, [], ◌∷◌, ◌++◌, map, length, take, drop, ℤ, is_err, Some, None, Ok, Err, Option, Result, ◌==◌, nat_lt}
+use Rattle.std.specs.Prelude.{ℕ, ◌+◌, ◌%◌, ◌^◌, Bool, true, false, cond, List, [], ◌∷◌, ◌++◌, map, length, take, drop, ℤ, Some, None, Ok, Err, Option, Result, ◌==◌, nat_lt}
 use Rattle.axis.specs.Kinds.{Kind, Outcome}
 use Rattle.axis.specs.Levels.{Levels, points_from, with_level}
 use Rattle.axis.specs.declared.currents.CurrentSetting.{CurrentSetting}
-use Rattle.coil.specs.Chains.{Chain, Did, on}
-use Rattle.coil.specs.Meaning.{Coil, Coils, at, cleared, noted, tripped}
+use Rattle.coil.specs.Chains.{on}
+use Rattle.coil.specs.Meaning.{Coil, cleared, noted, tripped}
 use Rattle.coil.specs.declared.CoilCall.TheVariants.{Feed, Note, Clear}
 use Rattle.coil.specs.declared.CoilId.{CoilId}
 use Rattle.coil.specs.declared.CoilId.TheVariants.{First, Second}
 use Rattle.coil.specs.declared.DriverCall.{DriverCall}
 use Rattle.module.specs.Motors.{latest}
-use Rattle.module.specs.Share.{Rules, Share, powered, share, sight, wanted}
+use Rattle.module.specs.Share.{Rules, Share, powered, sight, wanted}
 use Rattle.module.specs.declared.inner.Inner.{Inner}
 use Rattle.refusal.specs.declared.Refusal.{Refusal}
 use Rattle.refusal.specs.declared.Refusal.TheVariants.{UnknownRegister, Closed, OutOfRange, MotorPowered, RecordLength, AnswerLength, UnknownMotor, UnknownFlags}

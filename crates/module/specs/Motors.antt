@@ -1,5 +1,5 @@
 -- One motor of a module: its axis, its current settings, its latest fault. Assumes nothing.
-use Rattle.std.specs.Prelude.{◌≡◌, ℕ, List, map, Some, None, Ok, Err, Option, Result}
+use Rattle.std.specs.Prelude.{◌≡◌, ℕ, List, map, Some, Ok, Err, Option, Result}
 use Rattle.axis.specs.Kinds.{Outcome, moved}
 use Rattle.axis.specs.declared.AxisFault.{AxisFault}
 use Rattle.coil.specs.Chains.{Chain, Did, on}

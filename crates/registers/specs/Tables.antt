@@ -7,7 +7,6 @@ use Rattle.coil.specs.declared.CoilId.TheVariants.{First, Second}
 use Rattle.registers.specs.declared.Open.{Open}
 use Rattle.registers.specs.declared.Open.TheVariants as open_in
 use Rattle.registers.specs.declared.Register.{Register}
-use Rattle.registers.specs.declared.Setting.{Setting}
 use Rattle.registers.specs.declared.Setting.TheVariants.{Configuration, Current}
 use Rattle.registers.specs.declared.Stage.{Stage}
 use Rattle.registers.specs.declared.Stage.TheVariants.{Preparation, Running}

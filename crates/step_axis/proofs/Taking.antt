@@ -1,14 +1,14 @@
 -- The words of a cycle, taken one after the other.
-use Rattle.std.proofs.Common.{◌≡◌, ℕ, zero, suc, ◌+◌, ◌*◌, ◌%◌, ◌^◌, ◌<◌, ◌≤◌, Bool, true, false, cond, not, ◌&&◌, ◌||◌, eqb, List, [], ◌∷◌, ◌++◌, map, length, get_or, take, ℤ, pos, negsuc, ◌+ℤ◌, ◌*ℤ◌, neg_ℤ, ◌≤ℤ◌, Ok, Err, Result, sym, refl, ap, ◌∙◌, subst, add-zero, mod-eq_of_lt, arith, lit<, w16, SFits, of_z}
+use Rattle.std.proofs.Common.{◌≡◌, ℕ, zero, suc, ◌+◌, ◌*◌, ◌%◌, ◌^◌, ◌<◌, Bool, true, false, cond, not, ◌&&◌, ◌||◌, eqb, List, [], ◌∷◌, ◌++◌, map, length, get_or, take, ℤ, pos, ◌+ℤ◌, ◌*ℤ◌, neg_ℤ, ◌≤ℤ◌, Ok, Err, Result, sym, refl, ap, ◌∙◌, subst, add-zero, mod-eq_of_lt, arith, lit<}
 use Rattle.std.proofs.lemmas.List.{map-append, take_more}
 use Rattle.std.proofs.lemmas.Int.{ints}
 use Rattle.axis.specs.Levels.{is_powered}
 use Rattle.axis.specs.declared.AxisFault.{AxisFault}
 use Rattle.axis.specs.declared.AxisFault.TheVariants as fault
 use Rattle.coil.proofs.Chained.{chain_join}
-use Rattle.coil.proofs.Wraps.{modulo_onto, wrapping_modulo}
+use Rattle.coil.proofs.Wraps.{modulo_onto}
 use Rattle.coil.specs.Chains.{Chain, Did, Tried, on}
-use Rattle.coil.specs.Meaning.{Coil, Coils, Sound, advanced, answered, at, put, put_same, tripped, with_count}
+use Rattle.coil.specs.Meaning.{Coil, Coils, advanced, answered, at, put, put_same, tripped, with_count}
 use Rattle.coil.specs.Modulo.{modulo}
 use Rattle.coil.specs.declared.CoilCall.{CoilCall}
 use Rattle.coil.specs.declared.CoilCall.TheVariants.{Advance}
@@ -19,7 +19,6 @@ use Rattle.coil.specs.declared.CoilId.TheVariants.{First, Second}
 use Rattle.coil.specs.declared.DriverCall.{DriverCall}
 use Rattle.step_axis.specs.Taken.{Took, advances, count_after, declined, ending, steps_taken, taken, word_ending}
 use Rattle.step_axis.specs.Words.{code, field, steps, word, words}
-use Rattle.step_axis.specs.declared.StepAxis.{StepAxis}
 
 add_none : (z : ℤ) → z +ℤ pos 0 ≡ z
 add_none z = omega (arith, ints)

@@ -1,5 +1,5 @@
 -- The layout of step words and of their configuration register. Assumes nothing.
-use Rattle.std.specs.Prelude.{ℕ, zero, suc, ◌+◌, ◌-◌, ◌*◌, ◌/◌, ◌%◌, ◌^◌, Bool, true, false, cond, List, [], ◌∷◌, take, ℤ, pos, negsuc, neg_ℤ, Some, None, Option, ◌==◌, slice_index}
+use Rattle.std.specs.Prelude.{ℕ, zero, suc, ◌+◌, ◌-◌, ◌*◌, ◌/◌, ◌%◌, ◌^◌, cond, List, [], ◌∷◌, take, ℤ, pos, negsuc, neg_ℤ, Some, None, Option, ◌==◌, slice_index}
 use Rattle.axis.specs.declared.currents.Current.{Current}
 use Rattle.axis.specs.declared.currents.Current.TheVariants.{Off, Holding, Nominal, Maximum}
 use Rattle.step_axis.specs.declared.config.Resolution.{Resolution}

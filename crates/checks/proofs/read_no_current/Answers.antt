@@ -1,4 +1,4 @@
-use Rattle.std.proofs.Common.{◌≡◌, ℕ, List, ap, ◌∙◌}
+use Rattle.std.proofs.Common.{◌≡◌, ap, ◌∙◌}
 use Rattle.checks.proofs.Values.{given, reading_is}
 use Rattle.checks.specs.Bench.{answer_to, bench, fresh, position_in, sent}
 use Rattle.checks.specs.Good.{reads}

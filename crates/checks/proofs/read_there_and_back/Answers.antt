@@ -1,4 +1,4 @@
-use Rattle.std.proofs.Common.{◌≡◌, List, ap, ◌∙◌}
+use Rattle.std.proofs.Common.{◌≡◌, ap, ◌∙◌}
 use Rattle.checks.proofs.Values.{given, reading_is}
 use Rattle.checks.specs.Bench.{answer_to, bench, configured, fresh, last_answer, position_in, prepared, sent, sent_times}
 use Rattle.checks.specs.Good.{reads}

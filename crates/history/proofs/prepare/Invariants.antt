@@ -1,4 +1,4 @@
-use Rattle.std.proofs.Common.{◌≡◌, map, length}
+use Rattle.std.proofs.Common.{map}
 use Rattle.history.proofs.Runs.{SoFar}
 use Rattle.history.specs.Lists.{prepared}
 use Rattle.module.specs.Share.{rules}

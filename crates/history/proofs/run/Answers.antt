@@ -1,4 +1,4 @@
-use Rattle.std.proofs.Common.{vec_items, vec_len, refl, rules as std_rules}
+use Rattle.std.proofs.Common.{vec_len, refl, rules as std_rules}
 use Rattle.history.proofs.Whole.{ran_none, ran_some}
 use Rattle.module.proofs.Cuts.{kept}
 use Rattle.module.specs.Share.{rules}

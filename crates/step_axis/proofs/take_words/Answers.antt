@@ -1,4 +1,4 @@
-use Rattle.std.proofs.Common.{◌≡◌, ◌<◌, arith, rules}
+use Rattle.std.proofs.Common.{◌≡◌, ◌<◌, arith}
 use Rattle.coil.specs.Meaning.{at}
 use Rattle.std.proofs.lemmas.Int.{ints}
 use Rattle.step_axis.proofs.Taking.{so_all, so_declined, so_more, so_none, within}

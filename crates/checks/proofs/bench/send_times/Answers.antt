@@ -1,4 +1,4 @@
-use Rattle.std.proofs.Common.{◌≡◌, ℕ, Ok, sym, refl, ap, ◌∙◌, arith}
+use Rattle.std.proofs.Common.{◌≡◌, Ok, sym, refl, ap, ◌∙◌, arith}
 use Rattle.checks.proofs.Sending.{answer_more, sent_more}
 use Rattle.checks.proofs.Values.{given}
 use Rattle.checks.specs.Bench.{answer_to, bench, last_answer, sent, sent_times}

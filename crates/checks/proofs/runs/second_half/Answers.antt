@@ -1,4 +1,4 @@
-use Rattle.std.proofs.Common.{◌≡◌, ℕ, ◌-◌, ◌≤◌, length, take, drop, sym, ap, ◌∙◌, arith, length-drop}
+use Rattle.std.proofs.Common.{◌-◌, ◌≤◌, length, drop, sym, ap, ◌∙◌, arith, length-drop}
 use Rattle.checks.specs.Runs.{bytes_of}
 use Rattle.coil.specs.declared.CoilId.TheVariants.{Second}
 use Rattle.history.specs.Lists.{got}

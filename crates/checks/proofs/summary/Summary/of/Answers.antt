@@ -1,6 +1,5 @@
-use Rattle.std.proofs.Common.{◌≡◌, ℕ, ◌+◌, eqb, length, count_by, sym, ap, ◌∙◌, arith}
+use Rattle.std.proofs.Common.{◌+◌, eqb, length, count_by, sym, ap, ◌∙◌, arith}
 use Rattle.checks.specs.declared.reading.Reading.{Reading}
-use Rattle.checks.specs.declared.summary.Summary.{Summary}
 use Rattle.std.proofs.lemmas.List.{take_all}
 use Rattle.std.proofs.lemmas.List.Sums.{count_by_more_no, count_by_more_yes}
 use Rattle.checks.proofs.summary.Summary.of.Goals as goal

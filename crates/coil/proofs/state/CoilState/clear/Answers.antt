@@ -1,4 +1,4 @@
-use Rattle.std.proofs.Common.{refl, rules}
+use Rattle.std.proofs.Common.{refl}
 use Rattle.coil.specs.Meaning.{cleared}
 use Rattle.coil.proofs.Flags.{cleared_below, cleared_tripped}
 use Rattle.coil.proofs.state.CoilState.clear.Goals as goal

@@ -1,6 +1,5 @@
-use Rattle.std.proofs.Common.{◌≡◌, true, false, ltb, sym, ◌∙◌, rules as std_rules}
+use Rattle.std.proofs.Common.{◌≡◌, true, false, ltb, sym, rules as std_rules}
 use Rattle.module.proofs.Calling.{called_report, motor_is, no_motor, report_flags, report_nobody}
-use Rattle.module.specs.Effects.{number}
 use Rattle.module.specs.Share.{rules}
 use Rattle.module.proofs.inner.Inner.report.Goals as goal
 
