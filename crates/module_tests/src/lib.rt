@@ -165,14 +165,19 @@ mod tests {
         assert_eq!(rt; count_after_four(0x0800), Ok(8));
         assert_eq!(rt; count_after_four(0x0808), Ok(16));
         assert_eq!(rt; count_after_four(0x0810), Ok(32));
-        assert_eq!(rt; count_after_four(0x0820), Ok(4));
-        assert_eq!(rt; count_after_four(0x0840), Ok(2));
         assert_eq!(rt; count_after_four(0x0868), Ok(2));
         assert_eq!(rt; count_after_four(0x0870), Ok(4));
         let mut module = prepare().start();
         let wrapped = wrap(&rt, &mut module);
         let _driver = module.end();
         wrapped
+    }
+
+    #[test]
+    fn each_resolution_scales_the_count(rt: HostRuntime) {
+        assert_eq!(rt; count_after_four(0x0800), Ok(8));
+        assert_eq!(rt; count_after_four(0x0820), Ok(4));
+        assert_eq!(rt; count_after_four(0x0840), Ok(2));
     }
 
     fn trip(rt: &impl Abort, module: &mut Started) -> Result<(), Fail> {
