@@ -2,10 +2,11 @@
 #![tactic(auto)]
 
 ghost use Rattle.std.specs.Prelude.{◌≡◌, List};
-ghost use Rattle.registers.specs.Tables.{Line, is_open, look_up, step_lines};
+ghost use Rattle.registers.specs.Tables.{Line, is_open, look_up, ramp_lines, step_lines};
 
-use axis::{Axis, CurrentSetting};
+use axis::{Axis, CurrentSetting, SpeedSetting};
 use coil::CoilId;
+use ramp_axis::RampAxis;
 use step_axis::StepAxis;
 
 // A module is prepared, then it runs.
@@ -22,11 +23,12 @@ pub enum Open {
     BothStages,
 }
 
-// What a register sets: the module-wide configuration, or one of a motor's currents.
+// What a register sets: the module-wide configuration, or one of a motor's currents or speed settings.
 #[derive(Clone, Copy)]
 pub enum Setting {
     Configuration,
     Current(CoilId, CurrentSetting),
+    Speed(CoilId, SpeedSetting),
 }
 
 #[derive(Clone, Copy)]
@@ -55,11 +57,29 @@ pub trait Model: Axis {
         ensures { result ≡ look_up lines number };
 }
 
+fn configuration() -> Register
+    ensures { result ≡ record { setting = Setting.Configuration; opened = Open.Preparation } }
+{
+    Register {
+        setting: Setting::Configuration,
+        opened: Open::Preparation,
+    }
+}
+
 fn current(motor: CoilId, which: CurrentSetting) -> Register
     ensures { result ≡ record { setting = Setting.Current motor which; opened = Open.BothStages } }
 {
     Register {
         setting: Setting::Current(motor, which),
+        opened: Open::BothStages,
+    }
+}
+
+fn speed(motor: CoilId, which: SpeedSetting) -> Register
+    ensures { result ≡ record { setting = Setting.Speed motor which; opened = Open.BothStages } }
+{
+    Register {
+        setting: Setting::Speed(motor, which),
         opened: Open::BothStages,
     }
 }
@@ -75,10 +95,31 @@ impl Model for StepAxis {
             36 => current(CoilId::Second, CurrentSetting::Holding),
             37 => current(CoilId::Second, CurrentSetting::Nominal),
             38 => current(CoilId::Second, CurrentSetting::Maximum),
-            46 => Register {
-                setting: Setting::Configuration,
-                opened: Open::Preparation,
-            },
+            46 => configuration(),
+            _ => return None,
+        };
+        Some(register)
+    }
+}
+
+impl Model for RampAxis {
+    ghost lines = { ramp_lines };
+
+    fn register(number: u16) -> Option<Register> {
+        let register = match number {
+            48 => current(CoilId::First, CurrentSetting::Holding),
+            49 => current(CoilId::First, CurrentSetting::Nominal),
+            50 => current(CoilId::First, CurrentSetting::Maximum),
+            52 => speed(CoilId::First, SpeedSetting::Maximum),
+            54 => speed(CoilId::First, SpeedSetting::Acceleration),
+            56 => speed(CoilId::First, SpeedSetting::Deceleration),
+            112 => current(CoilId::Second, CurrentSetting::Holding),
+            113 => current(CoilId::Second, CurrentSetting::Nominal),
+            114 => current(CoilId::Second, CurrentSetting::Maximum),
+            116 => speed(CoilId::Second, SpeedSetting::Maximum),
+            118 => speed(CoilId::Second, SpeedSetting::Acceleration),
+            120 => speed(CoilId::Second, SpeedSetting::Deceleration),
+            304 => configuration(),
             _ => return None,
         };
         Some(register)
