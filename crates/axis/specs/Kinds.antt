@@ -2,7 +2,6 @@
 use Rattle.std.specs.Prelude.{◌≡◌, ℕ, List, map, ℤ, Option, Result}
 use Rattle.axis.specs.declared.currents.Current.{Current}
 use Rattle.axis.specs.declared.AxisFault.{AxisFault}
-use Rattle.axis.specs.declared.SpeedSetting.{SpeedSetting}
 use Rattle.coil.specs.Chains.{Chain, Did, on}
 use Rattle.coil.specs.Meaning.{Coil, Coils, at, put}
 use Rattle.coil.specs.declared.CoilCall.{CoilCall}
@@ -36,8 +35,6 @@ pub record Kind (C A : Type 0) : Type 0 where
   pub first_config : C
   -- the current that an axis chooses
   pub current : A → Current
-  -- the axis with another value of a speed setting
-  pub with_speed : SpeedSetting → ℕ → A → A
   -- one cycle, over eight bytes of orders
   pub cycle : C → A → Seen → List ℕ → Outcome A
 

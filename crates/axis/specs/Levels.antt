@@ -1,4 +1,4 @@
--- The settings of a motor: their ranges, its three currents, and which of them it wants. Assumes nothing.
+-- The three current settings of a motor, and which of them it wants. Assumes nothing.
 use Rattle.std.specs.Prelude.{ℕ, Bool, true, false, cond, ℤ, pos, negsuc, Some, None, Option, nat_le}
 use Rattle.axis.specs.declared.currents.Current.{Current}
 use Rattle.axis.specs.declared.currents.Current.TheVariants.{Off, Holding, Nominal, Maximum}
@@ -10,11 +10,6 @@ use Rattle.axis.specs.declared.currents.Currents.{Currents}
 abbrev pub points_from : ℤ → Option ℕ
 points_from (pos n) = cond (nat_le n 167) (Some n) None
 points_from (negsuc n) = None
-
--- the speed or change of speed that a setting's value means: 0 to 65,535, or absent
-abbrev pub speed_from : ℤ → Option ℕ
-speed_from (pos n) = cond (nat_le n 65535) (Some n) None
-speed_from (negsuc n) = None
 
 -- the settings, in points
 pub record Levels : Type 0 where

@@ -3,9 +3,7 @@
 
 ghost use Rattle.std.specs.Prelude.{◌≡◌, ℕ, true, List, length};
 ghost use Rattle.axis.specs.Kinds.{Cycled, Kind, Seen, seen};
-ghost use Rattle.axis.specs.Levels.{speed_from};
 ghost use Rattle.axis.specs.declared.AxisFault.TheVariants.{Coil};
-ghost use Rattle.axis.specs.declared.SpeedSetting.{SpeedSetting};
 ghost use Rattle.axis.specs.declared.currents.Current.TheVariants.{Off};
 ghost use Rattle.coil.specs.Meaning.{at, tripped};
 
@@ -22,19 +20,6 @@ pub use points::Points;
 pub enum AxisFault {
     // the coil declined a call
     Coil(CoilFault),
-    // the axis was ordered to run in this mode, which it doesn't know
-    UnknownMode(i8),
-}
-
-// What a motor's ramp is bounded by. A kind of axis without a ramp keeps none of them.
-#[derive(Clone, Copy)]
-pub enum SpeedSetting {
-    // the maximum speed, in microsteps a cycle
-    Maximum,
-    // by how much the speed may grow in a cycle
-    Acceleration,
-    // by how much the speed may shrink in a cycle
-    Deceleration,
 }
 
 impl From<CoilFault> for AxisFault {
@@ -42,18 +27,6 @@ impl From<CoilFault> for AxisFault {
 
     fn from(fault: CoilFault) -> AxisFault {
         AxisFault::Coil(fault)
-    }
-}
-
-impl SpeedSetting {
-    // The speed or change of speed that a setting's value means, or none where it is out of range.
-    pub fn from_setting(value: i32) -> Option<u16>
-        ensures { result ≡ speed_from value }
-    {
-        if value < 0 || value > u16::MAX as i32 {
-            return None;
-        }
-        Some(value as u16)
     }
 }
 
@@ -80,9 +53,6 @@ pub trait Axis: Copy {
     fn current(&self) -> Current
         ensures { result ≡ kind.current self.now };
 
-    fn set_speed(&mut self, which: SpeedSetting, value: u16)
-        ensures { self.new ≡ kind.with_speed which value self.old };
-
     // One cycle: eight bytes of orders, eight of answer, and the coil that this axis drives.
     fn cycle<D: CoilDriver>(
         &mut self,
@@ -99,7 +69,4 @@ pub trait Axis: Copy {
     ghost rests: { (config : Self.Config) (x : Self) (s : Seen) (orders : List ℕ) → tripped (kind.cycle config x s orders).flags ≡ true → kind.current (kind.cycle config x s orders).axis ≡ Off };
 
     ghost starts: { kind.current kind.fresh ≡ Off };
-
-    // a speed setting changes no current
-    ghost keeps: { (which : SpeedSetting) (n : ℕ) (x : Self) → kind.current (kind.with_speed which n x) ≡ kind.current x };
 }

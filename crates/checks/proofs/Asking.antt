@@ -12,7 +12,7 @@ use Rattle.history.specs.declared.Call.{Call}
 use Rattle.history.specs.declared.Entry.{Entry}
 use Rattle.history.specs.declared.History.{History}
 use Rattle.history.specs.declared.SetRegister.{SetRegister}
-use Rattle.motors.specs.declared.inner.Inner.{Inner}
+use Rattle.module.specs.declared.inner.Inner.{Inner}
 use Rattle.std.proofs.lemmas.List.{get_or-map}
 use Rattle.std.specs.Option.{option_map}
 use Rattle.std.specs.declared.alloc.Global.{Global}

@@ -7,9 +7,9 @@ use Rattle.drivers.specs.Pulsed.{Pulsed, pulse_meaning}
 use Rattle.drivers.specs.declared.pulse.PulseDriver.{PulseDriver}
 use Rattle.history.proofs.Calls.{called_stand, same_stand}
 use Rattle.history.specs.Stands.{Stand, first_stand}
-use Rattle.motors.specs.Called.{Called, Filled, Made}
-use Rattle.motors.specs.Effects.{Answer, answer, cycle, half, outcome, setting}
-use Rattle.motors.specs.declared.inner.Inner.{Inner}
+use Rattle.module.specs.Called.{Called, Filled, Made}
+use Rattle.module.specs.Effects.{Answer, answer, cycle, half, outcome, setting}
+use Rattle.module.specs.declared.inner.Inner.{Inner}
 use Rattle.registers.specs.declared.Stage.TheVariants.{Preparation, Running}
 use Rattle.step_axis.specs.Taken.{step_kind}
 use Rattle.step_axis.specs.declared.StepAxis.{StepAxis}

@@ -6,9 +6,9 @@ use Rattle.coil.specs.declared.CoilId.TheVariants.{First, Second}
 use Rattle.drivers.specs.Pulsed.{pulse_meaning}
 use Rattle.drivers.specs.declared.pulse.PulseDriver.{PulseDriver}
 use Rattle.history.specs.Stands.{Query, Stand, first_stand, stand, stand_after}
-use Rattle.motors.specs.Effects.{cycle, half, outcome, setting}
-use Rattle.motors.specs.Share.{Rules, rules}
-use Rattle.motors.specs.declared.inner.Inner.{Inner}
+use Rattle.module.specs.Effects.{cycle, half, outcome, setting}
+use Rattle.module.specs.Share.{Rules, rules}
+use Rattle.module.specs.declared.inner.Inner.{Inner}
 use Rattle.registers.specs.Tables.{step_lines}
 use Rattle.registers.specs.declared.Stage.TheVariants.{Preparation, Running}
 use Rattle.step_axis.specs.Taken.{step_kind}

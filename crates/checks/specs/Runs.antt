@@ -7,7 +7,7 @@ use Rattle.history.specs.Stands.{Query, Stand}
 use Rattle.history.specs.declared.Call.{Call}
 use Rattle.history.specs.declared.Entry.{Entry}
 use Rattle.history.specs.declared.History.{History}
-use Rattle.motors.specs.Effects.{Answer, report}
+use Rattle.module.specs.Effects.{Answer, report}
 use Rattle.refusal.specs.Numbers.{number}
 use Rattle.registers.specs.declared.Stage.TheVariants.{Running}
 use Rattle.std.specs.declared.alloc.Global.{Global}

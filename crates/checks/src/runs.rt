@@ -14,7 +14,7 @@ use axis::Axis;
 use coil::{CoilDriver, CoilId, OVERCURRENT};
 use drivers::PulseDriver;
 use history::{Call, Entry, History};
-use law::compare;
+use law::{FunctionModel, compare};
 use module::{Closed, Module};
 use refusal::Refusal;
 use std::alloc::{AllocError, Global};
@@ -163,9 +163,12 @@ pub fn trip(heap: Global) -> Result<Vec<Reading>, CheckError>
 {
     let mut one = history(heap, 0)?;
     let mut other = history(heap, OVERCURRENT)?;
-    let (first, second) = compare::<StepAxis, StepAxis, PulseDriver, PulseDriver>(
+    let model = FunctionModel::StepWords;
+    let (first, second) = compare(
+        model,
         PulseDriver::new(0, 0),
         &mut one,
+        model,
         PulseDriver::new(0, 0),
         &mut other,
     );

@@ -10,7 +10,7 @@ ghost use Rattle.coil.specs.declared.CoilId.{CoilId};
 mod pair;
 mod state;
 
-pub use pair::{CoilPair, is_tripped};
+pub use pair::CoilPair;
 
 // Flag bits of a coil.
 pub const STALL: u8 = 1;

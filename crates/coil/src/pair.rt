@@ -14,13 +14,6 @@ const TRIPPING: u8 = OVERTEMPERATURE | OVERCURRENT;
 
 const ALL_FLAGS: u8 = 15;
 
-// Whether a coil with these flags is tripped: overtemperature or overcurrent stands.
-pub fn is_tripped(flags: u8) -> bool
-    ensures { result ≡ tripped flags }
-{
-    flags & TRIPPING != 0
-}
-
 impl CoilState {
     fn new(count: u32) -> CoilState
         ensures { coil_of result ≡ new_coil count }
@@ -32,12 +25,18 @@ impl CoilState {
         }
     }
 
+    fn is_tripped(&self) -> bool
+        ensures { result ≡ tripped self.now.flags }
+    {
+        self.flags & TRIPPING != 0
+    }
+
     fn advance(&mut self, steps: i32) -> Result<(), CoilFault>
         ensures after { coil_of self.new ≡ advanced (coil_of self.old) steps }
         ensures answer { result ≡ answered (declines_advance self.old.flags steps) self.old.flags }
         ensures declined { declines_advance self.old.flags steps ≡ true → self.new ≡ self.old }
     {
-        if is_tripped(self.flags) {
+        if self.is_tripped() {
             return Err(CoilFault::Tripped(self.flags));
         }
         self.count = self.count.wrapping_add_signed(steps);
@@ -50,7 +49,7 @@ impl CoilState {
         ensures answer { result ≡ answered (declines_feed self.old.flags points) self.old.flags }
         ensures declined { declines_feed self.old.flags points ≡ true → self.new ≡ self.old }
     {
-        if is_tripped(self.flags) && points != 0 {
+        if self.is_tripped() && points != 0 {
             return Err(CoilFault::Tripped(self.flags));
         }
         self.points = points;
@@ -61,9 +60,10 @@ impl CoilState {
         ensures { coil_of self.new ≡ reported (coil_of self.old) flags }
     {
         let flags = self.flags & LATCHED | flags & ALL_FLAGS;
+        let tripped = flags & TRIPPING != 0;
         *self = CoilState {
             count: self.count,
-            points: if is_tripped(flags) { 0 } else { self.points },
+            points: if tripped { 0 } else { self.points },
             flags,
         };
     }

@@ -8,10 +8,10 @@ use Rattle.history.specs.Lists.{Event, asked, buffer, half_told}
 use Rattle.history.specs.Ran.{Once}
 use Rattle.history.specs.Stands.{Query, Stand, given, share_after, stand, stand_after}
 use Rattle.history.specs.declared.Call.{Call}
-use Rattle.motors.specs.Called.{Called, Filled}
-use Rattle.motors.specs.Effects.{Answer, Asked, answer, cycle, deed, half, length_answer, outcome, points_after, setting}
-use Rattle.motors.specs.Share.{Rules, Share, share, wanted}
-use Rattle.motors.specs.declared.inner.Inner.{Inner}
+use Rattle.module.specs.Called.{Called, Filled}
+use Rattle.module.specs.Effects.{Answer, Asked, answer, cycle, deed, half, length_answer, outcome, points_after, setting}
+use Rattle.module.specs.Share.{Rules, Share, share, wanted}
+use Rattle.module.specs.declared.inner.Inner.{Inner}
 use Rattle.refusal.specs.declared.Refusal.TheVariants.{AnswerLength, RecordLength}
 use Rattle.registers.specs.declared.Stage.{Stage}
 use Rattle.registers.specs.declared.Stage.TheVariants.{Running}

@@ -6,9 +6,9 @@ use Rattle.coil.specs.Meaning.{Coils}
 use Rattle.history.specs.Lists.{Answered, Event, queries, tolds}
 use Rattle.history.specs.Ran.{Once, Passed}
 use Rattle.history.specs.Stands.{Query, Stand, drives, stand, stands, tells, told}
-use Rattle.motors.specs.Effects.{calls}
-use Rattle.motors.specs.Share.{Rules}
-use Rattle.motors.specs.declared.inner.Inner.{Inner}
+use Rattle.module.specs.Effects.{calls}
+use Rattle.module.specs.Share.{Rules}
+use Rattle.module.specs.declared.inner.Inner.{Inner}
 use Rattle.std.proofs.lemmas.List.{append-nil, drop_all, drop_more, drop-set-lt, map_push, map-set, take_all, take_more, take_more_set}
 
 -- n of the entries are done: vs₀ and vs are the entries as they were and as they are, x₀ and x the module

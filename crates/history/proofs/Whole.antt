@@ -13,10 +13,10 @@ use Rattle.history.specs.declared.Call.{Call}
 use Rattle.history.specs.declared.Entry.{Entry}
 use Rattle.history.specs.declared.History.{History}
 use Rattle.history.specs.declared.SetRegister.{SetRegister}
-use Rattle.motors.specs.Called.{Made}
-use Rattle.motors.specs.Effects.{calls, first_calls}
-use Rattle.motors.specs.Share.{Rules}
-use Rattle.motors.specs.declared.inner.Inner.{Inner}
+use Rattle.module.specs.Called.{Made}
+use Rattle.module.specs.Effects.{calls, first_calls}
+use Rattle.module.specs.Share.{Rules}
+use Rattle.module.specs.declared.inner.Inner.{Inner}
 use Rattle.std.proofs.lemmas.List.{map-append}
 use Rattle.std.specs.Option.{option_map}
 use Rattle.std.specs.declared.alloc.Global.{Global}

@@ -8,7 +8,7 @@ use Rattle.history.specs.declared.Call.TheVariants as calls
 use Rattle.history.specs.declared.Entry.{Entry}
 use Rattle.history.specs.declared.History.{History}
 use Rattle.history.specs.declared.SetRegister.{SetRegister}
-use Rattle.motors.specs.Effects.{Answer, Asked, acknowledgement, cycle, half, report, setting}
+use Rattle.module.specs.Effects.{Answer, Asked, acknowledgement, cycle, half, report, setting}
 use Rattle.registers.specs.declared.Stage.TheVariants.{Preparation, Running}
 use Rattle.std.specs.Option.{option_map}
 

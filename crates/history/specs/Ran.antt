@@ -5,9 +5,9 @@ use Rattle.coil.specs.Meaning.{Coils}
 use Rattle.history.specs.Lists.{Answered, Event, events, preparation, queries, running, tolds}
 use Rattle.history.specs.Stands.{Query, Stand, drives, first_stand, stand, stand_after, stands, tells, told}
 use Rattle.history.specs.declared.History.{History}
-use Rattle.motors.specs.Effects.{calls, first_calls}
-use Rattle.motors.specs.Share.{Rules}
-use Rattle.motors.specs.declared.inner.Inner.{Inner}
+use Rattle.module.specs.Effects.{calls, first_calls}
+use Rattle.module.specs.Share.{Rules}
+use Rattle.module.specs.declared.inner.Inner.{Inner}
 
 -- one call: x becomes y, the entry becomes w, and its buffer was bytes
 pub record Once {C A D : Type 0} (k : Rules C A) (meaning : D → Coils) (did : Did D) (x y : Inner A D C) (q : Query) (bytes : List ℕ) (w : Event) : Type 0 where

@@ -5,9 +5,9 @@ use Rattle.coil.specs.Meaning.{Coil, Coils, at}
 use Rattle.coil.specs.declared.CoilId.{CoilId}
 use Rattle.coil.specs.declared.CoilId.TheVariants.{First, Second}
 use Rattle.coil.specs.declared.DriverCall.{DriverCall}
-use Rattle.motors.specs.Effects.{Answer, Asked, acknowledgement, answer, calls, cycle, deed, half, lives, outcome, points_after, report, setting}
-use Rattle.motors.specs.Share.{Rules, Share, born, share, wanted}
-use Rattle.motors.specs.declared.inner.Inner.{Inner}
+use Rattle.module.specs.Effects.{Answer, Asked, acknowledgement, answer, calls, cycle, deed, half, lives, outcome, points_after, report, setting}
+use Rattle.module.specs.Share.{Rules, Share, born, share, wanted}
+use Rattle.module.specs.declared.inner.Inner.{Inner}
 use Rattle.registers.specs.declared.Stage.{Stage}
 
 -- one motor: its share of the module, and the points of its coil

@@ -4,7 +4,7 @@
 ghost use Rattle.std.specs.Prelude.{map};
 ghost use Rattle.history.specs.Lists.{asked as asks, buffer, operated as call_event, prepared as set_event};
 ghost use Rattle.history.specs.Ran.{Once, Passed, Ran};
-ghost use Rattle.motors.specs.Share.{rules};
+ghost use Rattle.module.specs.Share.{rules};
 ghost use Rattle.registers.specs.declared.Stage.TheVariants as stages;
 
 use axis::Axis;

@@ -4,8 +4,8 @@ use Rattle.coil.proofs.Wraps.{modulo_below, modulo_onto}
 use Rattle.coil.specs.Modulo.{modulo}
 use Rattle.coil.specs.declared.CoilId.{CoilId}
 use Rattle.law.specs.Deeds.{ending, microsteps_taken}
-use Rattle.motors.specs.Effects.{Deed, acknowledges, after, misses, moves, reports, sets, starts}
-use Rattle.motors.specs.Share.{Share, rules}
+use Rattle.module.specs.Effects.{Deed, acknowledges, after, misses, moves, reports, sets, starts}
+use Rattle.module.specs.Share.{Share, rules}
 use Rattle.registers.specs.Tables.{step_lines}
 use Rattle.std.proofs.lemmas.Int.{ints}
 use Rattle.step_axis.specs.Taken.{step_kind, steps_taken}

@@ -3,15 +3,28 @@ use Rattle.std.proofs.Common.{◌≡◌, ℕ, Bool, true, false, cond, eqb, List
 use Rattle.coil.specs.declared.CoilId.{CoilId}
 use Rattle.coil.specs.declared.CoilId.TheVariants.{First, Second}
 use Rattle.history.specs.Stands.{Query, Stand, given, motor, stand_after, stands, tells, told}
-use Rattle.law.specs.Deeds.{Reply, deeds_of, ending, heard, heard_one, more, replies, reply, reply_to}
-use Rattle.motors.specs.Effects.{Answer, Asked, Deed, acknowledgement, acknowledges, addressee, after, answer, concerns, cycle, cycle_deed, deed, flags_answer, half, length_answer, lives, misses, motor_answer, motor_deed, moves, outcome, report, reports, set_deed, set_motor, sets, setting, setting_answer, starts, value_answer}
-use Rattle.motors.specs.Share.{Rules, Share, powered}
+use Rattle.law.specs.Deeds.{Reply, deeds_of, ending, heard, heard_one, more, reply_to}
+use Rattle.module.specs.Effects.{Answer, Asked, Deed, acknowledgement, acknowledges, addressee, after, answer, concerns, cycle, cycle_deed, deed, flags_answer, half, length_answer, lives, misses, motor_answer, motor_deed, moves, outcome, report, reports, set_deed, set_motor, sets, setting, setting_answer, starts, value_answer}
+use Rattle.module.specs.Share.{Rules, Share, powered}
 use Rattle.refusal.specs.declared.Refusal.TheVariants.{AnswerLength, Closed, RecordLength, UnknownMotor}
 use Rattle.registers.specs.Tables.{Line, is_open, look_up}
 use Rattle.registers.specs.declared.Register.{Register}
 use Rattle.registers.specs.declared.Setting.{Setting}
-use Rattle.registers.specs.declared.Setting.TheVariants.{Configuration, Current, Speed}
+use Rattle.registers.specs.declared.Setting.TheVariants.{Configuration, Current}
 use Rattle.registers.specs.declared.Stage.{Stage}
+
+-- the reply of a motor to what is done to it, by the rules
+abbrev pub reply : {C A : Type 0} → Rules C A → Share C A → Deed → List Reply → List Reply
+reply k h (sets stage n v) rs = record { number = setting_answer k.kind stage (look_up k.lines n) (powered k.kind h) v; bytes = None } ∷ rs
+reply k h starts rs = rs
+reply k h (moves orders) rs = record { number = Ok tt; bytes = Some (outcome k.kind h orders).answer } ∷ rs
+reply k h (misses n m) rs = record { number = length_answer n m; bytes = None } ∷ rs
+reply k h (reports f) rs = record { number = flags_answer f; bytes = None } ∷ rs
+reply k h acknowledges rs = record { number = Ok tt; bytes = None } ∷ rs
+
+abbrev pub replies : {C A : Type 0} → Rules C A → CoilId → Share C A → List Deed → List Reply
+replies k i h [] = []
+replies k i h (d ∷ ds) = reply k h d (replies k i (after k i h d) ds)
 
 own_after : {C A : Type 0} (k : Rules C A) (i : CoilId) (s : Stand C A) (q : Query) → (motor (stand_after k s q) i).own ≡ lives k i (motor s i).own (deed k.lines q.stage i q.asked)
 own_after k First s q = refl
@@ -52,10 +65,6 @@ heard_setting {C} {A} k i s stage n v rs (Some r) e = by i r.setting (ap (λ p. 
     by First (Current Second which) q = refl
     by Second (Current First which) q = refl
     by Second (Current Second which) q = ap (λ z. record { number = z; bytes = None } ∷ rs) (sym q)
-    by First (Speed First which) q = ap (λ z. record { number = z; bytes = None } ∷ rs) (sym q)
-    by First (Speed Second which) q = refl
-    by Second (Speed First which) q = refl
-    by Second (Speed Second which) q = ap (λ z. record { number = z; bytes = None } ∷ rs) (sym q)
 
 heard_cycle : {C A : Type 0} (k : Rules C A) (i : CoilId) (h : Share C A) (orders : List ℕ) (room : ℕ) (rs : List Reply) →
     record { number = length_answer (length orders) room; bytes = given k.kind i h (cycle orders room) } ∷ rs ≡ reply k h (cycle_deed i orders room) rs

@@ -1,4 +1,5 @@
 mod Counts
 mod Heard
 mod Proved
+mod Rested
 mod Supply

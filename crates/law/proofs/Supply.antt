@@ -1,8 +1,7 @@
 -- The supply holds after any list of calls.
 use Rattle.std.proofs.Common.{◌≡◌, ℕ, ◌+◌, ◌≤◌, min, Bool, true, false, cond, eqb, ltb, leb, List, [], ◌∷◌, ◌++◌, length, ℤ, pos, negsuc, Some, None, Option, sym, refl, ap, ◌∙◌, subst, arith, ltb-true, leb-true}
 use Rattle.axis.specs.Kinds.{Kind, Seen}
-use Rattle.axis.specs.Levels.{Levels, chosen, is_powered, points_from, speed_from, with_level}
-use Rattle.axis.specs.declared.SpeedSetting.{SpeedSetting}
+use Rattle.axis.specs.Levels.{Levels, chosen, is_powered, points_from, with_level}
 use Rattle.axis.specs.declared.currents.Current.{Current}
 use Rattle.axis.specs.declared.currents.Current.TheVariants.{Off, Holding, Nominal, Maximum}
 use Rattle.axis.specs.declared.currents.CurrentSetting.{CurrentSetting}
@@ -13,8 +12,8 @@ use Rattle.coil.specs.declared.CoilId.{CoilId}
 use Rattle.coil.specs.declared.CoilId.TheVariants.{First, Second}
 use Rattle.history.specs.Stands.{Query, Stand, Standing, coil, share_after, stand_after, stands}
 use Rattle.law.specs.Deeds.{deeds_of, more, quiet, quiet_after}
-use Rattle.motors.specs.Effects.{Asked, Deed, acknowledgement, acknowledges, adjusted, after, axis_after, concerns, currents_after, cycle, deed, half, lives, misses, motor_deed, moves, number, points_after, report, reports, set_deed, sets, setting, starts, tuned, with_limit, with_points}
-use Rattle.motors.specs.Share.{Rules, Share, powered, wanted}
+use Rattle.module.specs.Effects.{Asked, Deed, acknowledgement, acknowledges, adjusted, after, concerns, currents_after, cycle, deed, half, lives, misses, motor_deed, moves, number, points_after, report, reports, set_deed, sets, setting, starts, with_points}
+use Rattle.module.specs.Share.{Rules, Share, powered, wanted}
 use Rattle.registers.specs.Tables.{Line, is_open, look_up}
 use Rattle.registers.specs.declared.Register.{Register}
 use Rattle.registers.specs.declared.Setting.{Setting}
@@ -53,7 +52,6 @@ sane_cond false l m s t = t
 
 sane_adjusted : (t : Setting) (p : Bool) (l : Levels) (v : ℤ) → Sane l → Sane (adjusted t p l v)
 sane_adjusted place.Configuration p l v s = s
-sane_adjusted (place.Speed i which) p l v s = s
 sane_adjusted (place.Current i which) p l v s = sane_cond p l (with_points l which (points_from v)) s (sane_points l which v s)
 
 sane_set : (stage : Stage) (o : Option Register) (p : Bool) (l : Levels) (v : ℤ) → Sane l → Sane (currents_after stage o p l v)
@@ -84,7 +82,6 @@ powered_kept stage (Some r) l v = ap (λ z. cond (is_open r.opened stage) z l) (
     by : (t : Setting) → adjusted t true l v ≡ l
     by place.Configuration = refl
     by (place.Current i which) = refl
-    by (place.Speed i which) = refl
 
 wants_still : (c : Current) (stage : Stage) (o : Option Register) (l : Levels) (v : ℤ) → chosen c (currents_after stage o (is_powered c) l v) ≡ chosen c l
 wants_still Off stage o l v = refl
@@ -98,30 +95,8 @@ pub record Fine {C A : Type 0} (k : Kind C A) (m : Standing C A) (b : Bool) : Ty
   pub enough : b ≡ true → min 100 (wanted k m.own) ≤ m.points
   pub rests : b ≡ true → tripped m.own.flags ≡ true → wanted k m.own ≡ 0
 
--- what holds of every kind of axis
-pub record Lawful {C A : Type 0} (k : Kind C A) : Type 0 where
-  pub starts : k.current k.fresh ≡ Off
-  pub keeps : (which : SpeedSetting) (n : ℕ) (x : A) → k.current (k.with_speed which n x) ≡ k.current x
-  pub rests : (config : C) (x : A) (s : Seen) (orders : List ℕ) → tripped (k.cycle config x s orders).flags ≡ true → k.current (k.cycle config x s orders).axis ≡ Off
-
--- a setting does not alter the current that a motor chooses
-current_still : {C A : Type 0} (k : Kind C A) → Lawful k → (stage : Stage) (o : Option Register) (p : Bool) (x : A) (v : ℤ) → k.current (axis_after k stage o p x v) ≡ k.current x
-current_still k law stage None p x v = refl
-current_still {C} {A} k law stage (Some r) p x v = so (is_open r.opened stage) r.setting
-  where
-    limited : (which : SpeedSetting) (o : Option ℕ) → k.current (with_limit k x which o) ≡ k.current x
-    limited which None = refl
-    limited which (Some n) = law.keeps which n x
-
-    by : (t : Setting) (p : Bool) → k.current (tuned k t p x v) ≡ k.current x
-    by place.Configuration p = refl
-    by (place.Current i which) p = refl
-    by (place.Speed i which) true = refl
-    by (place.Speed i which) false = limited which (speed_from v)
-
-    so : (b : Bool) (t : Setting) → k.current (cond b (tuned k t p x v) x) ≡ k.current x
-    so true t = by t p
-    so false t = refl
+abbrev pub Rests : {C A : Type 0} → Kind C A → Type 0
+Rests {C} {A} k = (config : C) (x : A) (s : Seen) (orders : List ℕ) → tripped (k.cycle config x s orders).flags ≡ true → k.current (k.cycle config x s orders).axis ≡ Off
 
 pub never : {X : Type 0} → false ≡ true → X
 never e = let n : ◌≡◌ {A = ℕ} 0 1 = ap (λ t. cond t 1 0) e in absurd (omega arith)
@@ -163,12 +138,10 @@ fine_report {C} {A} k i m b f w v s t u x te ue xe = record {
     rests true false te ue q y = s.rests (sym (ap (λ z. cond z false b) ue) ∙ q) (report_tripped m.own.flags f (ltb-true f 16 te) y ue)
     rests false u te ue q y = s.rests q y
 
-fine_after : {C A : Type 0} (k : Rules C A) (i : CoilId) (m : Standing C A) (b : Bool) (d : Deed) (w v : ℕ) → Lawful k.kind → Fine k.kind m b → min 100 (wanted k.kind (after k i m.own d)) ≤ granted i w v →
+fine_after : {C A : Type 0} (k : Rules C A) (i : CoilId) (m : Standing C A) (b : Bool) (d : Deed) (w v : ℕ) → Rests k.kind → Fine k.kind m b → min 100 (wanted k.kind (after k i m.own d)) ≤ granted i w v →
     Fine k.kind (record { own = after k i m.own d; points = points_after i (coil m) w v (Some d) }) (quiet_after b d)
 fine_after k i m b (sets stage n x) w v law s g =
-    let same : wanted k.kind (after k i m.own (sets stage n x)) ≡ wanted k.kind m.own =
-    ap (λ c. chosen c (currents_after stage (look_up k.lines n) (powered k.kind m.own) m.own.currents x)) (current_still k.kind law stage (look_up k.lines n) (powered k.kind m.own) m.own.axis x)
-    ∙ wants_still (k.kind.current m.own.axis) stage (look_up k.lines n) m.own.currents x in
+    let same : wanted k.kind (after k i m.own (sets stage n x)) ≡ wanted k.kind m.own = wants_still (k.kind.current m.own.axis) stage (look_up k.lines n) m.own.currents x in
     record {
       sane = sane_after k i m.own (sets stage n x) s.sane;
       enough = λ q. subst (λ z. min 100 z ≤ m.points) (sym same) (s.enough q);
@@ -178,7 +151,7 @@ fine_after k i m b starts w v law s g = s
 fine_after k i m b (moves orders) w v law s g = record {
   sane = s.sane;
   enough = λ _. g;
-  rests = λ _ t. ap (λ c. chosen c m.own.currents) (law.rests m.own.config m.own.axis (record { count = m.own.count; flags = m.own.flags }) orders t);
+  rests = λ _ t. ap (λ c. chosen c m.own.currents) (law m.own.config m.own.axis (record { count = m.own.count; flags = m.own.flags }) orders t);
 }
 fine_after k i m b (misses n l) w v law s g = s
 fine_after k i m b (reports f) w v law s g = fine_report k i m b f w v s (ltb f 16) (tripped f) (tripped (noted m.own.flags f)) refl refl refl
@@ -188,7 +161,7 @@ abbrev calmed : Bool → Option Deed → Bool
 calmed b None = b
 calmed b (Some d) = quiet_after b d
 
-fine_lives : {C A : Type 0} (k : Rules C A) (i : CoilId) (m : Standing C A) (b : Bool) (o : Option Deed) (w v : ℕ) → Lawful k.kind → Fine k.kind m b → min 100 (wanted k.kind (lives k i m.own o)) ≤ granted i w v →
+fine_lives : {C A : Type 0} (k : Rules C A) (i : CoilId) (m : Standing C A) (b : Bool) (o : Option Deed) (w v : ℕ) → Rests k.kind → Fine k.kind m b → min 100 (wanted k.kind (lives k i m.own o)) ≤ granted i w v →
     Fine k.kind (record { own = lives k i m.own o; points = points_after i (coil m) w v o }) (calmed b o)
 fine_lives k i m b None w v law s g = s
 fine_lives k i m b (Some d) w v law s g = fine_after k i m b d w v law s g
@@ -242,7 +215,7 @@ pub record AllFine {C A : Type 0} (k : Kind C A) (s : Stand C A) (a b : Bool) : 
   pub two : Fine k s.two b
   pub together : s.one.points + s.two.points ≤ 267
 
-all_after : {C A : Type 0} (k : Rules C A) (s : Stand C A) (a b : Bool) (q : Query) → Lawful k.kind → AllFine k.kind s a b →
+all_after : {C A : Type 0} (k : Rules C A) (s : Stand C A) (a b : Bool) (q : Query) → Rests k.kind → AllFine k.kind s a b →
     AllFine k.kind (stand_after k s q) (calmed a (deed k.lines q.stage First q.asked)) (calmed b (deed k.lines q.stage Second q.asked))
 all_after {C} {A} k s a b q law f =
     let h : Share C A = share_after k First s.one q in
@@ -263,7 +236,7 @@ quiet_more b None ds = refl
 quiet_more b (Some d) ds = refl
 
 -- after any list of calls
-pub all_fine : {C A : Type 0} (k : Rules C A) (s : Stand C A) (a b : Bool) (qs : List Query) → Lawful k.kind → AllFine k.kind s a b → AllFine k.kind (stands k s qs) (quiet a (deeds_of k.lines First qs)) (quiet b (deeds_of k.lines Second qs))
+pub all_fine : {C A : Type 0} (k : Rules C A) (s : Stand C A) (a b : Bool) (qs : List Query) → Rests k.kind → AllFine k.kind s a b → AllFine k.kind (stands k s qs) (quiet a (deeds_of k.lines First qs)) (quiet b (deeds_of k.lines Second qs))
 all_fine k s a b [] law f = f
 all_fine {C} {A} k s a b (q ∷ qs) law f =
     let o : Option Deed = deed k.lines q.stage First q.asked in

@@ -1,11 +1,11 @@
 -- What a history does to one motor, and what is read off that alone. Assumes nothing.
-use Rattle.std.specs.Prelude.{ℕ, Bool, true, false, cond, List, [], ◌∷◌, ℤ, pos, ◌+ℤ◌, ◌*ℤ◌, Some, None, Ok, Option, nat_lt}
+use Rattle.std.specs.Prelude.{ℕ, Bool, true, false, cond, List, [], ◌∷◌, ℤ, pos, ◌+ℤ◌, ◌*ℤ◌, Some, None, Option, nat_lt}
 use Rattle.coil.specs.Meaning.{cleared, noted, tripped}
 use Rattle.coil.specs.declared.CoilId.{CoilId}
 use Rattle.coil.specs.declared.CoilId.TheVariants.{First, Second}
 use Rattle.history.specs.Stands.{Query, Told}
-use Rattle.motors.specs.Effects.{Answer, Deed, acknowledges, after, config_after, deed, flags_answer, length_answer, misses, moves, outcome, reports, sets, setting_answer, starts}
-use Rattle.motors.specs.Share.{Rules, Share, powered}
+use Rattle.module.specs.Effects.{Answer, Deed, acknowledges, after, config_after, deed, misses, moves, reports, sets, starts}
+use Rattle.module.specs.Share.{Rules, Share}
 use Rattle.registers.specs.Tables.{Line, look_up, step_lines}
 use Rattle.step_axis.specs.Taken.{steps_taken, step_kind}
 use Rattle.step_axis.specs.Words.{counted, scale}
@@ -56,19 +56,6 @@ quiet b (d ∷ ds) = quiet (quiet_after b d) ds
 abbrev pub ending : {C A : Type 0} → Rules C A → CoilId → Share C A → List Deed → Share C A
 ending k i h [] = h
 ending k i h (d ∷ ds) = ending k i (after k i h d) ds
-
--- the reply of a motor to what is done to it, by the rules
-abbrev pub reply : {C A : Type 0} → Rules C A → Share C A → Deed → List Reply → List Reply
-reply k h (sets stage n v) rs = record { number = setting_answer k.kind stage (look_up k.lines n) (powered k.kind h) v; bytes = None } ∷ rs
-reply k h starts rs = rs
-reply k h (moves orders) rs = record { number = Ok tt; bytes = Some (outcome k.kind h orders).answer } ∷ rs
-reply k h (misses n m) rs = record { number = length_answer n m; bytes = None } ∷ rs
-reply k h (reports f) rs = record { number = flags_answer f; bytes = None } ∷ rs
-reply k h acknowledges rs = record { number = Ok tt; bytes = None } ∷ rs
-
-abbrev pub replies : {C A : Type 0} → Rules C A → CoilId → Share C A → List Deed → List Reply
-replies k i h [] = []
-replies k i h (d ∷ ds) = reply k h d (replies k i (after k i h d) ds)
 
 -- the microsteps of all words taken: flags and configuration are those at the start of the list,
 -- and reports, acknowledgements and settings of the configuration that are accepted change them

@@ -6,12 +6,11 @@ use Rattle.coil.specs.declared.CoilId.{CoilId}
 use Rattle.history.specs.Stands.{Query, Told}
 use Rattle.law.specs.Deeds.{Reply, deeds_of, ending, heard, microsteps_taken, quiet}
 use Rattle.law.specs.declared.FunctionModel.{FunctionModel}
-use Rattle.law.specs.declared.FunctionModel.TheVariants.{StepWords, Ramp}
-use Rattle.motors.specs.Effects.{Deed, starts}
-use Rattle.motors.specs.Share.{born, rules, wanted}
-use Rattle.motors.specs.declared.motor.Fault.{Fault}
-use Rattle.ramp_axis.specs.Cycles.{ramp_kind}
-use Rattle.registers.specs.Tables.{Line, ramp_lines, step_lines}
+use Rattle.law.specs.declared.FunctionModel.TheVariants.{StepWords}
+use Rattle.module.specs.Effects.{Deed, starts}
+use Rattle.module.specs.Share.{born, rules, wanted}
+use Rattle.module.specs.declared.motor.Fault.{Fault}
+use Rattle.registers.specs.Tables.{Line, step_lines}
 use Rattle.step_axis.specs.Taken.{step_kind}
 use Rattle.step_axis.specs.Words.{first_config}
 
@@ -31,7 +30,6 @@ pub record Run : Type 0 where
 
 abbrev pub lines_of : FunctionModel → List Line
 lines_of StepWords = step_lines
-lines_of Ramp = ramp_lines
 
 abbrev pub called : Option (List Query) → List Query
 called None = []
@@ -77,7 +75,6 @@ MotorsAreIndependent r s = (i : CoilId) → done_to r i ≡ done_to s i → show
 -- the points that the rules have a motor want, from what was done to it
 abbrev pub wanted_points : FunctionModel → CoilId → Coil → List Deed → ℕ
 wanted_points StepWords i c ds = wanted step_kind (ending (rules step_kind step_lines) i (born step_kind c) ds)
-wanted_points Ramp i c ds = wanted ramp_kind (ending (rules ramp_kind ramp_lines) i (born ramp_kind c) ds)
 
 -- both coils together never pass 267 points, yet a coil that was not tripped since the last accepted cycle
 -- has at least the smaller of 100 and what its motor wants
@@ -96,12 +93,3 @@ CountsAddUp r = r.model ≡ StepWords → (i : CoilId) → (at r.last i).count �
 -- two runs of equal sum from one first count leave equal counts
 abbrev pub EqualSumsLeaveEqualCounts : Run → Run → Type 0
 EqualSumsLeaveEqualCounts r s = r.model ≡ StepWords → s.model ≡ StepWords → (i : CoilId) → (at r.first i).count ≡ (at s.first i).count → travel r i ≡ travel s i → (at r.last i).count ≡ (at s.last i).count
-
--- the law over whole runs, of any two of them
-pub record LawOverRuns (r s : Run) : Type 0 where
-  pub independent : MotorsAreIndependent r s
-  pub first_supply : SupplyHolds r
-  pub second_supply : SupplyHolds s
-  pub first_counts : CountsAddUp r
-  pub second_counts : CountsAddUp s
-  pub equal_sums : EqualSumsLeaveEqualCounts r s

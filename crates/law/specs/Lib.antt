@@ -1,4 +1,3 @@
 pub mod Deeds
 pub mod Law
-pub mod Models
 pub mod Whole

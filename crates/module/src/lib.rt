@@ -4,18 +4,25 @@
 ghost use Rattle.std.specs.Prelude.{◌≡◌, length};
 ghost use Rattle.coil.specs.Meaning.{at};
 ghost use Rattle.coil.specs.declared.CoilId.TheVariants.{First, Second};
-ghost use Rattle.motors.specs.Called.{Called, Filled, Made};
-ghost use Rattle.motors.specs.Effects.{acknowledgement, cycle, of_motor, report, setting};
-ghost use Rattle.motors.specs.Share.{rules, share, wanted};
+ghost use Rattle.module.specs.Called.{Called, Filled, Made};
+ghost use Rattle.module.specs.Effects.{acknowledgement, cycle, of_motor, report, setting};
+ghost use Rattle.module.specs.Share.{rules, share, wanted};
 ghost use Rattle.registers.specs.declared.Stage.{Stage};
 ghost use Rattle.registers.specs.declared.Stage.TheVariants as stages;
 
 use axis::Axis;
 use coil::{CoilDriver, CoilId};
-pub use motors::Fault;
-use motors::{Inner, coil_of, place};
 use refusal::Refusal;
 use registers::{Model, Stage};
+
+mod calls;
+mod inner;
+mod motor;
+mod steps;
+
+use inner::Inner;
+pub use motor::Fault;
+use steps::{coil_of, place};
 
 // The stage of a module is part of its type, so that a program that runs a cycle in preparation,
 // or starts a module twice, is not built.

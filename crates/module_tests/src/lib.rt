@@ -7,8 +7,6 @@ mod tests {
     use coil::{CoilDriver, CoilFault, CoilId};
     use drivers::PulseDriver;
     use module::{Fault, Module, Preparation, Running};
-    use motors::Inner;
-    use ramp_axis::RampAxis;
     use refusal::{Refusal, answer_number};
     use std::process::Abort;
     use std::test::Fail;
@@ -211,83 +209,5 @@ mod tests {
         let tripped = trip(&rt, &mut module);
         let _driver = module.end();
         tripped
-    }
-
-    // The cycle after number 2^32 - 1 has number 0.
-    fn number_after_the_last(
-        rt: &impl Abort,
-        motors: &mut Inner<StepAxis, PulseDriver>,
-    ) -> Result<u32, Fail> {
-        motors.cycles = 4_294_967_295;
-        assert_eq!(rt; answer_number(motors.report(1, 2)), 0);
-        let orders = [1, 128, 0, 0, 0, 0, 0, 0, 0, 0, 0, 0, 0, 0, 0, 0];
-        assert_eq!(rt; answer_number(motors.cycle(&orders, &mut [0; 16])), 0);
-        let [first, _] = motors.motors;
-        Ok(first.fault.ok_or("no fault")?.cycle)
-    }
-
-    #[test]
-    fn cycle_numbers_wrap(rt: HostRuntime) -> Result<(), Fail> {
-        let mut motors = Inner::new(PulseDriver::new(0, 0));
-        let number = number_after_the_last(&rt, &mut motors);
-        let _driver = motors.end();
-        assert_eq!(rt; number?, 0);
-        Ok(())
-    }
-
-    type PreparedRamp = Module<Preparation, RampAxis, PulseDriver>;
-
-    type StartedRamp = Module<Running, RampAxis, PulseDriver>;
-
-    fn refuse_ramp_settings(rt: &impl Abort, module: &mut PreparedRamp) -> Result<(), Fail> {
-        assert_eq!(rt; answer_number(module.setting(46, 0x0800)), 1);
-        assert_eq!(rt; answer_number(module.setting(304, 2)), 3);
-        assert_eq!(rt; answer_number(module.setting(304, 1)), 0);
-        assert_eq!(rt; answer_number(module.setting(56, 65_536)), 3);
-        assert_eq!(rt; answer_number(module.setting(56, -1)), 3);
-        assert_eq!(rt; answer_number(module.setting(120, 65_535)), 0);
-        assert_eq!(rt; answer_number(module.setting(50, 168)), 3);
-        Ok(())
-    }
-
-    // The status word of motor 1 after a cycle with this control word for it, in mode 1.
-    fn status(module: &mut StartedRamp, control: u8) -> Result<u16, Refusal> {
-        let mut answer = [0; 16];
-        let orders = [0, 0, 0, 0, control, 0, 1, 0, 0, 0, 0, 0, 0, 0, 0, 0];
-        module.cycle(&orders, &mut answer)?;
-        Ok(u16::from_le_bytes([answer[4], answer[5]]))
-    }
-
-    // A powered motor's settings are closed, by its drive state.
-    fn refuse_powered_ramp(rt: &impl Abort, module: &mut StartedRamp) -> Result<(), Fail> {
-        assert_eq!(rt; answer_number(module.setting(304, 0)), 2);
-        assert_eq!(rt; status(module, 6), Ok(0x0231));
-        assert_eq!(rt; answer_number(module.setting(52, 10)), 0);
-        assert_eq!(rt; status(module, 7), Ok(0x0233));
-        assert_eq!(rt; answer_number(module.setting(52, 10)), 4);
-        assert_eq!(rt; answer_number(module.setting(48, 10)), 4);
-        assert_eq!(rt; answer_number(module.setting(52, -1)), 3);
-        assert_eq!(rt; answer_number(module.setting(116, 10)), 0);
-        Ok(())
-    }
-
-    fn prepare_ramp() -> PreparedRamp {
-        Module::new(PulseDriver::new(0, 0))
-    }
-
-    #[test]
-    fn ramp_settings_are_refused(rt: HostRuntime) -> Result<(), Fail> {
-        let mut prepared = prepare_ramp();
-        let refused = refuse_ramp_settings(&rt, &mut prepared);
-        let _driver = prepared.end();
-        refused
-    }
-
-    #[test]
-    fn settings_of_a_powered_ramp_are_refused(rt: HostRuntime) -> Result<(), Fail> {
-        let mut module = prepare_ramp().start();
-        let refused = refuse_powered_ramp(&rt, &mut module);
-        let _driver = module.end();
-        refused
     }
 }

@@ -2,14 +2,12 @@
 use Rattle.std.specs.Prelude.{ℕ, Bool, true, false, cond, List, [], ◌∷◌, Some, None, Option, ◌==◌}
 use Rattle.axis.specs.declared.currents.CurrentSetting.{CurrentSetting}
 use Rattle.axis.specs.declared.currents.CurrentSetting.TheVariants.{Holding, Nominal, Maximum}
-use Rattle.axis.specs.declared.SpeedSetting.{SpeedSetting}
-use Rattle.axis.specs.declared.SpeedSetting.TheVariants as of_speed
 use Rattle.coil.specs.declared.CoilId.{CoilId}
 use Rattle.coil.specs.declared.CoilId.TheVariants.{First, Second}
 use Rattle.registers.specs.declared.Open.{Open}
 use Rattle.registers.specs.declared.Open.TheVariants as open_in
 use Rattle.registers.specs.declared.Register.{Register}
-use Rattle.registers.specs.declared.Setting.TheVariants.{Configuration, Current, Speed}
+use Rattle.registers.specs.declared.Setting.TheVariants.{Configuration, Current}
 use Rattle.registers.specs.declared.Stage.{Stage}
 use Rattle.registers.specs.declared.Stage.TheVariants.{Preparation, Running}
 
@@ -27,10 +25,6 @@ pub record Line : Type 0 where
 -- one of a motor's three current settings, open at both stages
 abbrev pub current : ℕ → CoilId → CurrentSetting → Line
 current n motor which = record { number = n; register = record { setting = Current motor which; opened = open_in.BothStages } }
-
--- one of a motor's three speed settings, open at both stages
-abbrev pub speed : ℕ → CoilId → SpeedSetting → Line
-speed n motor which = record { number = n; register = record { setting = Speed motor which; opened = open_in.BothStages } }
 
 -- the module-wide configuration, open in preparation only
 abbrev pub configuration : ℕ → Line
@@ -51,22 +45,4 @@ step_lines =
     ∷ current 37 Second Nominal
     ∷ current 38 Second Maximum
     ∷ configuration 46
-    ∷ []
-
--- function model 3, the ramp
-abbrev pub ramp_lines : List Line
-ramp_lines =
-    current 48 First Holding
-    ∷ current 49 First Nominal
-    ∷ current 50 First Maximum
-    ∷ speed 52 First of_speed.Maximum
-    ∷ speed 54 First of_speed.Acceleration
-    ∷ speed 56 First of_speed.Deceleration
-    ∷ current 112 Second Holding
-    ∷ current 113 Second Nominal
-    ∷ current 114 Second Maximum
-    ∷ speed 116 Second of_speed.Maximum
-    ∷ speed 118 Second of_speed.Acceleration
-    ∷ speed 120 Second of_speed.Deceleration
-    ∷ configuration 304
     ∷ []

@@ -2,11 +2,10 @@
 #![tactic(auto)]
 
 ghost use Rattle.std.specs.Prelude.{◌≡◌, List};
-ghost use Rattle.registers.specs.Tables.{Line, is_open, look_up, ramp_lines, step_lines};
+ghost use Rattle.registers.specs.Tables.{Line, is_open, look_up, step_lines};
 
-use axis::{Axis, CurrentSetting, SpeedSetting};
+use axis::{Axis, CurrentSetting};
 use coil::CoilId;
-use ramp_axis::RampAxis;
 use step_axis::StepAxis;
 
 // A module is prepared, then it runs.
@@ -23,12 +22,11 @@ pub enum Open {
     BothStages,
 }
 
-// What a register sets: the module-wide configuration, or one of a motor's currents or speed settings.
+// What a register sets: the module-wide configuration, or one of a motor's currents.
 #[derive(Clone, Copy)]
 pub enum Setting {
     Configuration,
     Current(CoilId, CurrentSetting),
-    Speed(CoilId, SpeedSetting),
 }
 
 #[derive(Clone, Copy)]
@@ -57,29 +55,11 @@ pub trait Model: Axis {
         ensures { result ≡ look_up lines number };
 }
 
-fn configuration() -> Register
-    ensures { result ≡ record { setting = Setting.Configuration; opened = Open.Preparation } }
-{
-    Register {
-        setting: Setting::Configuration,
-        opened: Open::Preparation,
-    }
-}
-
 fn current(motor: CoilId, which: CurrentSetting) -> Register
     ensures { result ≡ record { setting = Setting.Current motor which; opened = Open.BothStages } }
 {
     Register {
         setting: Setting::Current(motor, which),
-        opened: Open::BothStages,
-    }
-}
-
-fn speed(motor: CoilId, which: SpeedSetting) -> Register
-    ensures { result ≡ record { setting = Setting.Speed motor which; opened = Open.BothStages } }
-{
-    Register {
-        setting: Setting::Speed(motor, which),
         opened: Open::BothStages,
     }
 }
@@ -95,31 +75,10 @@ impl Model for StepAxis {
             36 => current(CoilId::Second, CurrentSetting::Holding),
             37 => current(CoilId::Second, CurrentSetting::Nominal),
             38 => current(CoilId::Second, CurrentSetting::Maximum),
-            46 => configuration(),
-            _ => return None,
-        };
-        Some(register)
-    }
-}
-
-impl Model for RampAxis {
-    ghost lines = { ramp_lines };
-
-    fn register(number: u16) -> Option<Register> {
-        let register = match number {
-            48 => current(CoilId::First, CurrentSetting::Holding),
-            49 => current(CoilId::First, CurrentSetting::Nominal),
-            50 => current(CoilId::First, CurrentSetting::Maximum),
-            52 => speed(CoilId::First, SpeedSetting::Maximum),
-            54 => speed(CoilId::First, SpeedSetting::Acceleration),
-            56 => speed(CoilId::First, SpeedSetting::Deceleration),
-            112 => current(CoilId::Second, CurrentSetting::Holding),
-            113 => current(CoilId::Second, CurrentSetting::Nominal),
-            114 => current(CoilId::Second, CurrentSetting::Maximum),
-            116 => speed(CoilId::Second, SpeedSetting::Maximum),
-            118 => speed(CoilId::Second, SpeedSetting::Acceleration),
-            120 => speed(CoilId::Second, SpeedSetting::Deceleration),
-            304 => configuration(),
+            46 => Register {
+                setting: Setting::Configuration,
+                opened: Open::Preparation,
+            },
             _ => return None,
         };
         Some(register)

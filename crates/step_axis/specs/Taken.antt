@@ -88,6 +88,5 @@ step_kind = record {
   config = config_from;
   first_config = first_config;
   current = λ x. x.current;
-  with_speed = λ which n x. x;
   cycle = step_cycle;
 }

@@ -7,7 +7,7 @@ ghost use Rattle.step_axis.specs.Taken.{Took, answer_bytes, code_after, ending, 
 ghost use Rattle.step_axis.specs.Words.{code, code_number, counted, last_word, scale, steps, word};
 ghost use Rattle.std.proofs.Common.{rules};
 
-use axis::{Axis, AxisFault, Current, SpeedSetting};
+use axis::{Axis, AxisFault, Current};
 use coil::{CoilDriver, CoilId};
 
 mod config;
@@ -131,8 +131,6 @@ impl Axis for StepAxis {
 
     ghost starts = { Prim.search rules };
 
-    ghost keeps = { Prim.search rules };
-
     fn new() -> StepAxis {
         StepAxis {
             position: 0,
@@ -154,9 +152,6 @@ impl Axis for StepAxis {
     fn current(&self) -> Current {
         self.current
     }
-
-    // Step words carry the speed themselves.
-    fn set_speed(&mut self, _which: SpeedSetting, _value: u16) {}
 
     fn cycle<D: CoilDriver>(
         &mut self,

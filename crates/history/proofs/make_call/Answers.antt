@@ -1,8 +1,8 @@
 use Rattle.std.proofs.Common.{vec_items, vec_len, sym, refl, w32, rules as std_rules}
 use Rattle.history.proofs.Calls.{matched, once_buffers, once_plain, once_setting}
-use Rattle.motors.specs.Effects.{acknowledgement, report}
-use Rattle.motors.proofs.Cuts.{kept}
-use Rattle.motors.specs.Share.{rules}
+use Rattle.module.specs.Effects.{acknowledgement, report}
+use Rattle.module.proofs.Cuts.{kept}
+use Rattle.module.specs.Share.{rules}
 use Rattle.registers.specs.declared.Stage.TheVariants.{Running}
 use Rattle.std.proofs.lemmas.Int.{to_z-of_z}
 use Rattle.history.proofs.make_call.Goals as goal

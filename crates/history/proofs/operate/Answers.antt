@@ -1,7 +1,7 @@
 use Rattle.std.proofs.Common.{◌≡◌, ◌<◌, ◌≤◌, length, arith, rules as std_rules}
 use Rattle.history.proofs.Runs.{so_all, so_next, so_none}
 use Rattle.history.specs.Lists.{operated}
-use Rattle.motors.specs.Share.{rules}
+use Rattle.module.specs.Share.{rules}
 use Rattle.history.proofs.operate.Goals as goal
 
 pub loop-entry-init : goal.loop-entry-init

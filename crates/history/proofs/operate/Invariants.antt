@@ -1,7 +1,7 @@
 use Rattle.std.proofs.Common.{map}
 use Rattle.history.proofs.Runs.{SoFar}
 use Rattle.history.specs.Lists.{operated}
-use Rattle.motors.specs.Share.{rules}
+use Rattle.module.specs.Share.{rules}
 use Rattle.history.proofs.operate.Given as goal
 
 abbrev pub invariant-loop-entry : goal.invariant-loop-entry

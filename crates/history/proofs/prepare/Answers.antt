@@ -4,7 +4,7 @@ use Rattle.history.proofs.Runs.{so_all, so_next, so_none}
 use Rattle.history.specs.Lists.{prepared}
 use Rattle.history.specs.declared.Entry.{Entry}
 use Rattle.history.specs.declared.SetRegister.{SetRegister}
-use Rattle.motors.specs.Share.{rules}
+use Rattle.module.specs.Share.{rules}
 use Rattle.registers.specs.declared.Stage.TheVariants.{Preparation}
 use Rattle.std.proofs.lemmas.Int.{to_z-of_z}
 use Rattle.history.proofs.prepare.Goals as goal

@@ -1,7 +1,7 @@
 use Rattle.std.proofs.Common.{map}
 use Rattle.history.proofs.Runs.{SoFar}
 use Rattle.history.specs.Lists.{prepared}
-use Rattle.motors.specs.Share.{rules}
+use Rattle.module.specs.Share.{rules}
 use Rattle.history.proofs.prepare.Given as goal
 
 abbrev pub invariant-loop-entry : goal.invariant-loop-entry

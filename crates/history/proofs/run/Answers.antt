@@ -1,7 +1,7 @@
 use Rattle.std.proofs.Common.{vec_len, refl, rules as std_rules}
 use Rattle.history.proofs.Whole.{ran_none, ran_some}
-use Rattle.motors.proofs.Cuts.{kept}
-use Rattle.motors.specs.Share.{rules}
+use Rattle.module.proofs.Cuts.{kept}
+use Rattle.module.specs.Share.{rules}
 use Rattle.history.proofs.run.Goals as goal
 
 pub returns-in-None : goal.returns-in-None

@@ -1,26 +1,19 @@
-use Rattle.law.proofs.Proved.{Kept, counts_add_up, equal_sums, independent, kept}
-use Rattle.law.proofs.Supply.{Lawful}
-use Rattle.law.specs.Law.{Run}
-use Rattle.law.specs.Whole.{whole}
+use Rattle.law.proofs.Proved.{counts_add_up, equal_sums, independent, supply_holds}
 use Rattle.law.proofs.compare.Goals as goal
 
 pub returns : goal.returns
 returns g c =
-    let a : Lawful g.A.Axis.kind = record { starts = g.met.A.Axis.starts; keeps = g.met.A.Axis.keeps; rests = g.met.A.Axis.rests } in
-    let b : Lawful g.B.Axis.kind = record { starts = g.met.B.Axis.starts; keeps = g.met.B.Axis.keeps; rests = g.met.B.Axis.rests } in
-    let r : Run = whole g.A.ModelAxis.model g.A.Axis.kind g.D.CoilDriver.meaning c.args.first c.args.one.now c.run-left.new.history c.run-left.result.inner in
-    let s : Run = whole g.B.ModelAxis.model g.B.Axis.kind g.E.CoilDriver.meaning c.args.second c.args.other.now c.run-right.new.history c.run-right.result.inner in
-    let u : Kept r = kept g.A.ModelAxis.model g.A.Axis.kind g.A.Model.lines g.D.CoilDriver.meaning g.D.CoilDriver.did c.args.first c.args.one.now c.run-left.new.history c.run-left.result.inner a g.met.A.ModelAxis.runs (g.met.D.CoilDriver.sound c.args.first) c.run-left.ensures in
-    let v : Kept s = kept g.B.ModelAxis.model g.B.Axis.kind g.B.Model.lines g.E.CoilDriver.meaning g.E.CoilDriver.did c.args.second c.args.other.now c.run-right.new.history c.run-right.result.inner b g.met.B.ModelAxis.runs (g.met.E.CoilDriver.sound c.args.second) c.run-right.ensures in
+    let s = g.met.D.CoilDriver.sound c.args.first in
+    let t = g.met.E.CoilDriver.sound c.args.second in
+    let p = c.run_as-left.ensures in
+    let q = c.run_as-right.ensures in
     record {
-      first_run = c.run-left.ensures;
-      second_run = c.run-right.ensures;
-      law_over_runs = record {
-        independent = independent r s u v;
-        first_supply = u.supply;
-        second_supply = v.supply;
-        first_counts = counts_add_up r u;
-        second_counts = counts_add_up s v;
-        equal_sums = equal_sums r s u v;
-      };
+      first_run = p;
+      second_run = q;
+      independent = independent g.D.CoilDriver.meaning g.D.CoilDriver.did g.E.CoilDriver.meaning g.E.CoilDriver.did c.args.model c.args.other_model c.args.first c.args.second c.args.one.now c.run_as-left.new.history c.args.other.now c.run_as-right.new.history c.run_as-left.result.inner c.run_as-right.result.inner s t p q;
+      first_supply = supply_holds g.D.CoilDriver.meaning g.D.CoilDriver.did c.args.model c.args.first c.args.one.now c.run_as-left.new.history c.run_as-left.result.inner s p;
+      second_supply = supply_holds g.E.CoilDriver.meaning g.E.CoilDriver.did c.args.other_model c.args.second c.args.other.now c.run_as-right.new.history c.run_as-right.result.inner t q;
+      first_counts = counts_add_up g.D.CoilDriver.meaning g.D.CoilDriver.did c.args.model c.args.first c.args.one.now c.run_as-left.new.history c.run_as-left.result.inner s p;
+      second_counts = counts_add_up g.E.CoilDriver.meaning g.E.CoilDriver.did c.args.other_model c.args.second c.args.other.now c.run_as-right.new.history c.run_as-right.result.inner t q;
+      equal_sums = equal_sums g.D.CoilDriver.meaning g.D.CoilDriver.did g.E.CoilDriver.meaning g.E.CoilDriver.did c.args.model c.args.other_model c.args.first c.args.second c.args.one.now c.run_as-left.new.history c.args.other.now c.run_as-right.new.history c.run_as-left.result.inner c.run_as-right.result.inner s t p q;
     }

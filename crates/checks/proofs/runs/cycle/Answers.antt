@@ -1,6 +1,6 @@
 use Rattle.std.proofs.Common.{◌≡◌, vec_items, vec_len, ap, ◌∙◌}
 use Rattle.checks.specs.Bench.{word_record}
-use Rattle.motors.specs.Effects.{cycle}
+use Rattle.module.specs.Effects.{cycle}
 use Rattle.registers.specs.declared.Stage.TheVariants.{Running}
 use Rattle.checks.proofs.runs.cycle.Goals as goal
 

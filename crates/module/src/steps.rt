@@ -1,0 +1,135 @@
+// The steps that a module's calls are made of.
+ghost use Rattle.std.specs.Prelude.{◌≡◌, ◌<◌, length, Ok};
+ghost use Rattle.coil.specs.declared.CoilId.{CoilId};
+ghost use Rattle.coil.specs.declared.CoilId.TheVariants.{First, Second};
+ghost use Rattle.module.specs.Called.{Adjusted, Made, Moved, Rested, Shared, Turn};
+ghost use Rattle.module.specs.Effects.{in_range, of_motor, with_config};
+ghost use Rattle.module.specs.Share.{place as place_of};
+ghost use Rattle.std.specs.Option.{unwrap_or};
+
+use crate::inner::{Configuration, Inner};
+use crate::motor::Motor;
+use axis::{Axis, CurrentSetting, Points};
+use coil::{CoilDriver, CoilId};
+use refusal::Refusal;
+use registers::Model;
+use supply::Supply;
+
+// The place of a motor in the table of two.
+pub(crate) fn place(coil: CoilId) -> usize
+    ensures value { result ≡ place_of coil }
+    ensures within { result < 2 }
+{
+    match coil {
+        CoilId::First => 0,
+        CoilId::Second => 1,
+    }
+}
+
+impl<A: Axis, D: CoilDriver> Inner<A, D> {
+    // Both motors as they begin, and 0 points fed to both coils.
+    pub(crate) fn new(driver: D) -> Inner<A, D>
+        ensures { Made A.Axis.kind D.CoilDriver.meaning D.CoilDriver.did driver result }
+    {
+        let mut driver = driver;
+        let _ = driver.feed(CoilId::First, 0);
+        let _ = driver.feed(CoilId::Second, 0);
+        Inner {
+            configuration: Configuration {
+                model: A::first_config(),
+            },
+            motors: [Motor::new(), Motor::new()],
+            cycles: 0,
+            supply: Supply::new(),
+            driver,
+        }
+    }
+
+    // Lets all go but the driver.
+    pub(crate) fn end(self) -> D
+        ensures { result ≡ self.driver }
+    {
+        let Inner {
+            configuration: _configuration,
+            motors: _,
+            cycles: _cycles,
+            supply: _supply,
+            driver,
+        } = self;
+        driver
+    }
+
+    // One motor's part of a cycle.
+    fn turn(&mut self, coil: CoilId, orders: &[u8], answer: &mut [u8])
+        requires { (length orders.now ≡ 8) × (length answer.old ≡ 8) }
+        ensures { Turn A.Axis.kind D.CoilDriver.meaning D.CoilDriver.did coil self.old self.new orders.now answer.new }
+    {
+        let config = self.configuration.model;
+        let cycle = self.cycles;
+        self.motors[place(coil)].cycle(config, &mut self.driver, coil, cycle, orders, answer);
+    }
+
+    // Both motors move, motor 1 first, and the cycle gets its number.
+    pub(crate) fn move_motors(&mut self, orders: &[u8], answer: &mut [u8])
+        requires { (length orders.now ≡ 16) × (length answer.old ≡ 16) }
+        ensures { Moved A.Axis.kind D.CoilDriver.meaning D.CoilDriver.did self.old self.new orders.now answer.new }
+    {
+        self.cycles = self.cycles.wrapping_add(1);
+        let (first, second) = orders.split_at(8);
+        self.turn(CoilId::First, first, &mut answer[0..8]);
+        self.turn(CoilId::Second, second, &mut answer[8..]);
+    }
+
+    // Feeds both coils what the supply grants of what their motors want. Neither feed is declined.
+    pub(crate) fn share(&mut self)
+        requires { (i : CoilId) → Rested A.Axis.kind D.CoilDriver.meaning self.old i }
+        ensures { Shared A.Axis.kind D.CoilDriver.meaning D.CoilDriver.did self.old self.new }
+    {
+        let first = self.motors[0].wanted();
+        let second = self.motors[1].wanted();
+        let (first, second) = self.supply.share(first, second);
+        let _ = self.driver.feed(CoilId::First, first);
+        let _ = self.driver.feed(CoilId::Second, second);
+    }
+}
+
+// Settings. Each question of the gate is asked in its order before anything is written.
+impl<A: Model, D: CoilDriver> Inner<A, D> {
+    // Sets the configuration of the function model: is the value in range?
+    pub(crate) fn configure(&mut self, value: i32) -> Result<(), Refusal>
+        ensures number { result ≡ in_range (A.Axis.kind.config value) (Ok tt) }
+        ensures after { self.new ≡ with_config self.old (unwrap_or (A.Axis.kind.config value) self.old.configuration.model) }
+    {
+        self.configuration.model = A::config(value).ok_or(Refusal::OutOfRange)?;
+        Ok(())
+    }
+
+    // Sets one of a motor's currents: is the value in range, and the motor not powered?
+    pub(crate) fn set_current(
+        &mut self,
+        coil: CoilId,
+        which: CurrentSetting,
+        value: i32,
+    ) -> Result<(), Refusal>
+        ensures { Adjusted A.Axis.kind D.CoilDriver.meaning coil which value self.old self.new result }
+    {
+        let points = Points::from_setting(value).ok_or(Refusal::OutOfRange)?;
+        let at = place(coil);
+        if self.motors[at].is_powered() {
+            return Err(Refusal::MotorPowered);
+        }
+        self.motors[at].set(which, points);
+        Ok(())
+    }
+}
+
+// The coil of a motor, by the motor's number.
+pub(crate) fn coil_of(motor: u8) -> Result<CoilId, Refusal>
+    ensures { result ≡ of_motor motor First Second }
+{
+    match motor {
+        1 => Ok(CoilId::First),
+        2 => Ok(CoilId::Second),
+        _ => Err(Refusal::UnknownMotor),
+    }
+}
