@@ -2,7 +2,6 @@
 ghost use Rattle.std.specs.Prelude.{◌≡◌, max, Ok, fold};
 ghost use Rattle.checks.specs.Bench.{answer_to, bench, fresh, last_answer, position_in, sent, sent_times, word_record};
 
-use axis::Axis;
 use coil::CoilId;
 use drivers::PulseDriver;
 use module::{Module, Preparation, Running};

@@ -6,8 +6,7 @@ ghost use Rattle.checks.specs.Bench.{bench, configured, fresh, maximum_set};
 ghost use Rattle.checks.specs.Good.{all_readings, full_turn, maximum_current, no_current, there_and_back};
 ghost use Rattle.checks.specs.declared.error.CheckError.TheVariants.{Memory};
 
-use axis::Axis;
-use coil::{CoilDriver, CoilId};
+use coil::CoilId;
 use drivers::PulseDriver;
 use module::Module;
 use refusal::Refusal;

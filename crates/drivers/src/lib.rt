@@ -3,7 +3,6 @@
 
 mod pulse;
 
-use coil::CoilDriver;
 pub use pulse::{Direction, PulseDriver, Pulses};
 
 #[cfg(test)]

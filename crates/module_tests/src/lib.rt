@@ -3,8 +3,8 @@
 
 #[cfg(test)]
 mod tests {
-    use axis::{Axis, AxisFault};
-    use coil::{CoilDriver, CoilFault, CoilId};
+    use axis::AxisFault;
+    use coil::{CoilFault, CoilId};
     use drivers::PulseDriver;
     use module::{Fault, Module, Preparation, Running};
     use refusal::{Refusal, answer_number};
