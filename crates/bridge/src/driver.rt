@@ -1,12 +1,13 @@
 // The bridge driver: two coils, and the levels of the two windings of each.
 ghost use Rattle.std.specs.Prelude.{◌≡◌};
-ghost use Rattle.coil.specs.Meaning.{at, new_coil};
+ghost use Rattle.coil.specs.Coils.{at};
+ghost use Rattle.coil.specs.Meaning.{new_coil};
 ghost use Rattle.bridge.specs.Bridged.{bridge_meaning};
 ghost use Rattle.bridge.specs.Wave.{OnCircle, levels_at};
 ghost use Rattle.std.proofs.Common.{rules};
 
 use crate::wave::Levels;
-use coil::{CoilDriver, CoilFault, CoilId, CoilPair};
+use coil::{CoilDriver, CoilFault, CoilId, CoilPair, Microsteps, Points};
 
 #[derive(Clone, Copy)]
 pub struct BridgeDriver {
@@ -16,7 +17,7 @@ pub struct BridgeDriver {
 impl BridgeDriver {
     // A driver with these counts, without current and without flags.
     pub fn new(first: u32, second: u32) -> BridgeDriver
-        ensures { bridge_meaning result ≡ record { one = new_coil first; two = new_coil second } }
+        ensures { bridge_meaning result ≡ record { first = new_coil first; second = new_coil second } }
     {
         BridgeDriver {
             coils: CoilPair::new(first, second),
@@ -40,11 +41,11 @@ impl CoilDriver for BridgeDriver {
 
     ghost sound = { Prim.search rules };
 
-    fn advance(&mut self, coil: CoilId, steps: i32) -> Result<(), CoilFault> {
+    fn advance(&mut self, coil: CoilId, steps: Microsteps) -> Result<(), CoilFault> {
         self.coils.advance(coil, steps)
     }
 
-    fn feed(&mut self, coil: CoilId, points: u8) -> Result<(), CoilFault> {
+    fn feed(&mut self, coil: CoilId, points: Points) -> Result<(), CoilFault> {
         self.coils.feed(coil, points)
     }
 
@@ -60,7 +61,7 @@ impl CoilDriver for BridgeDriver {
         self.coils.count(coil)
     }
 
-    fn points(&self, coil: CoilId) -> u8 {
+    fn points(&self, coil: CoilId) -> Points {
         self.coils.points(coil)
     }
 

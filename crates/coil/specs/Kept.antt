@@ -4,7 +4,7 @@ use Rattle.coil.specs.declared.pair.CoilPair.{CoilPair}
 use Rattle.coil.specs.declared.state.CoilState.{CoilState}
 
 abbrev pub coil_of : CoilState → Coil
-coil_of c = record { count = c.count; points = c.points; flags = c.flags }
+coil_of c = record { count = c.count; points = c.points.value; flags = c.flags }
 
 abbrev pub coils_of : CoilPair → Coils
-coils_of d = record { one = coil_of d.first; two = coil_of d.second }
+coils_of d = record { first = coil_of d.coils.first; second = coil_of d.coils.second }

@@ -1,10 +1,9 @@
 -- What a coil is, and what each call of a driver makes of it. Assumes nothing.
-use Rattle.std.specs.Prelude.{◌≡◌, ℕ, ◌+◌, ◌^◌, ◌<◌, ◌≤◌, Bool, true, cond, not, ◌&&◌, ℤ, pos, ◌+ℤ◌, Ok, Err, Result, ◌==◌, bit_and, bit_or, refl}
+use Rattle.std.specs.Prelude.{◌≡◌, ℕ, ◌+◌, ◌^◌, ◌<◌, ◌≤◌, Bool, true, cond, not, ◌&&◌, ℤ, pos, ◌+ℤ◌, Ok, Err, Result, ◌==◌, bit_and, bit_or}
 use Rattle.coil.specs.Modulo.{modulo}
 use Rattle.coil.specs.declared.CoilFault.{CoilFault}
 use Rattle.coil.specs.declared.CoilFault.TheVariants.{Tripped}
-use Rattle.coil.specs.declared.CoilId.{CoilId}
-use Rattle.coil.specs.declared.CoilId.TheVariants.{First, Second}
+use Rattle.coil.specs.declared.per_coil.PerCoil.{PerCoil}
 
 -- one coil: its count in microsteps, its current in points, its flags
 pub record Coil : Type 0 where
@@ -13,18 +12,8 @@ pub record Coil : Type 0 where
   pub flags : ℕ
 
 -- the two coils of a driver
-pub record Coils : Type 0 where
-  pub one : Coil
-  pub two : Coil
-
-abbrev pub at : Coils → CoilId → Coil
-at c First = c.one
-at c Second = c.two
-
--- the coils with another coil in the place i
-abbrev pub put : Coils → CoilId → Coil → Coils
-put c First x = record { one = x; two = c.two }
-put c Second x = record { one = c.one; two = x }
+abbrev pub Coils : Type 0
+Coils = PerCoil Coil
 
 -- bit 1, overtemperature, or bit 3, overcurrent, stands
 unfoldable pub tripped : ℕ → Bool
@@ -79,7 +68,3 @@ pub record Sound (c : Coil) : Type 0 where
 -- a coil as a driver is made: without current and without flags
 abbrev pub new_coil : ℕ → Coil
 new_coil count = record { count = count; points = 0; flags = 0 }
-
-pub put_same : (c : Coils) (i : CoilId) → put c i (at c i) ≡ c
-put_same c First = refl
-put_same c Second = refl

@@ -1,16 +1,28 @@
 // What a coil is, the calls that every coil driver takes, and a plain driver that keeps two coils.
 #![tactic(auto)]
 
-ghost use Rattle.std.specs.Prelude.{◌≡◌, ◌≤◌, pos, neg_ℤ, ◌≤ℤ◌};
+ghost use Rattle.std.specs.Prelude.{◌≡◌};
 ghost use Rattle.coil.specs.Chains.{Did, Tried, on};
-ghost use Rattle.coil.specs.Meaning.{Coils, Sound, at, put, declines_advance, declines_feed, advanced, fed, reported, acknowledged, answered};
+ghost use Rattle.coil.specs.Coils.{at, put};
+ghost use Rattle.coil.specs.Meaning.{Coils, Sound, declines_advance, declines_feed, advanced, fed, reported, acknowledged, answered};
 ghost use Rattle.coil.specs.declared.CoilCall.TheVariants.{Advance, Feed, Note, Clear};
 ghost use Rattle.coil.specs.declared.CoilId.{CoilId};
 
+mod direction;
+mod error;
+mod microsteps;
+mod number;
 mod pair;
+mod per_coil;
+mod points;
 mod state;
 
+pub use direction::Direction;
+pub use error::{OutOfRange, UnknownCoil};
+pub use microsteps::Microsteps;
 pub use pair::CoilPair;
+pub use per_coil::PerCoil;
+pub use points::{MAX_POINTS, Points};
 
 // Flag bits of a coil.
 pub const STALL: u8 = 1;
@@ -21,13 +33,11 @@ pub const OPEN_LOAD: u8 = 4;
 
 pub const OVERCURRENT: u8 = 8;
 
-// The most points that a coil is fed.
-pub const MAX_POINTS: u8 = 167;
-
+// A coil, by its number.
 #[derive(Clone, Copy, PartialEq, Eq, Debug)]
 pub enum CoilId {
-    First,
-    Second,
+    First = 1,
+    Second = 2,
 }
 
 // Why a coil declined a call: it is tripped, and these are its flags.
@@ -61,18 +71,16 @@ pub trait CoilDriver {
     ghost did: { Did Self };
 
     // Adds signed microsteps to the count, modulo 2^32. Declined exactly when the coil is tripped.
-    fn advance(&mut self, coil: CoilId, steps: i32) -> Result<(), CoilFault>
-        requires { (neg_ℤ (pos 65535) ≤ℤ steps) × (steps ≤ℤ pos 65535) }
-        ensures after { meaning self.new ≡ put (meaning self.old) coil (advanced (at (meaning self.old) coil) steps) }
-        ensures answer { result ≡ answered (declines_advance (at (meaning self.old) coil).flags steps) (at (meaning self.old) coil).flags }
-        ensures calls { Tried did (declines_advance (at (meaning self.old) coil).flags steps) self.old (on coil (Advance steps)) self.new };
+    fn advance(&mut self, coil: CoilId, steps: Microsteps) -> Result<(), CoilFault>
+        ensures after { meaning self.new ≡ put (meaning self.old) coil (advanced (at (meaning self.old) coil) steps.value) }
+        ensures answer { result ≡ answered (declines_advance (at (meaning self.old) coil).flags steps.value) (at (meaning self.old) coil).flags }
+        ensures calls { Tried did (declines_advance (at (meaning self.old) coil).flags steps.value) self.old (on coil (Advance steps.value)) self.new };
 
     // Sets the points. Declined exactly when the coil is tripped and the points are not 0.
-    fn feed(&mut self, coil: CoilId, points: u8) -> Result<(), CoilFault>
-        requires { points ≤ 167 }
-        ensures after { meaning self.new ≡ put (meaning self.old) coil (fed (at (meaning self.old) coil) points) }
-        ensures answer { result ≡ answered (declines_feed (at (meaning self.old) coil).flags points) (at (meaning self.old) coil).flags }
-        ensures calls { Tried did (declines_feed (at (meaning self.old) coil).flags points) self.old (on coil (Feed points)) self.new };
+    fn feed(&mut self, coil: CoilId, points: Points) -> Result<(), CoilFault>
+        ensures after { meaning self.new ≡ put (meaning self.old) coil (fed (at (meaning self.old) coil) points.value) }
+        ensures answer { result ≡ answered (declines_feed (at (meaning self.old) coil).flags points.value) (at (meaning self.old) coil).flags }
+        ensures calls { Tried did (declines_feed (at (meaning self.old) coil).flags points.value) self.old (on coil (Feed points.value)) self.new };
 
     // Notes reported flags, of which bits 4 to 7 are ignored. A coil that is tripped after this has 0 points.
     fn note(&mut self, coil: CoilId, flags: u8)
@@ -87,8 +95,8 @@ pub trait CoilDriver {
     fn count(&self, coil: CoilId) -> u32
         ensures { result ≡ (at (meaning self.now) coil).count };
 
-    fn points(&self, coil: CoilId) -> u8
-        ensures { result ≡ (at (meaning self.now) coil).points };
+    fn points(&self, coil: CoilId) -> Points
+        ensures { result.value ≡ (at (meaning self.now) coil).points };
 
     fn flags(&self, coil: CoilId) -> u8
         ensures { result ≡ (at (meaning self.now) coil).flags };

@@ -4,8 +4,8 @@
 #[cfg(test)]
 mod tests {
     use bridge::{BridgeDriver, Levels, quarter_wave};
-    use coil::{CoilDriver, CoilFault, CoilId};
-    use layers::{Reversal, ZeroShift, as_one_shift, without_reversals};
+    use coil::{CoilDriver, CoilFault, CoilId, Microsteps, Points};
+    use layers::{Layer, Reversed, Shifted, as_one_shift, without_reversals};
     use std::test::Fail;
 
     // Fractions below are in units of 2^-30.
@@ -31,9 +31,9 @@ mod tests {
     #[test]
     fn every_entry_is_the_rounded_sine(rt: HostRuntime) -> Result<(), Fail> {
         let wave = quarter_wave();
-        for k in 0..257 {
-            let expected = rounded_sine(k as u64).ok_or("a divisor is 0")?;
-            assert_eq!(rt; wave[k] as u64, expected);
+        for (k, entry) in (0..).zip(wave) {
+            let expected = rounded_sine(k).ok_or("a divisor is 0")?;
+            assert_eq!(rt; u64::from(entry), expected);
         }
         Ok(())
     }
@@ -43,15 +43,15 @@ mod tests {
         let coil = CoilId::Second;
         let mut driver = BridgeDriver::new(7, 0);
         assert_eq!(rt; driver.levels(coil), Levels { a: 10_000, b: 0 });
-        driver.advance(coil, 128)?;
+        driver.advance(coil, Microsteps::from(128))?;
         assert_eq!(rt; driver.levels(coil), Levels { a: 7071, b: 7071 });
-        driver.advance(coil, 128)?;
+        driver.advance(coil, Microsteps::from(128))?;
         assert_eq!(rt; driver.levels(coil), Levels { a: 0, b: 10_000 });
-        driver.advance(coil, 256)?;
+        driver.advance(coil, Microsteps::from(256))?;
         assert_eq!(rt; driver.levels(coil), Levels { a: -10_000, b: 0 });
-        driver.advance(coil, 256)?;
+        driver.advance(coil, Microsteps::from(256))?;
         assert_eq!(rt; driver.levels(coil), Levels { a: 0, b: -10_000 });
-        driver.advance(coil, -769)?;
+        driver.advance(coil, Microsteps::from(-769))?;
         assert_eq!(rt; driver.count(coil), 4_294_967_295);
         assert_eq!(rt; driver.levels(coil), Levels { a: 10_000, b: -61 });
         Ok(())
@@ -60,20 +60,24 @@ mod tests {
     #[test]
     fn reversal_over_shift_over_bridge(rt: HostRuntime) -> Result<(), Fail> {
         let coil = CoilId::Second;
-        let shift = ZeroShift::new(BridgeDriver::new(0, 4_294_967_290), 10);
+        let by_10 = Shifted { microsteps: 10 };
+        let shift = Layer::new(by_10, BridgeDriver::new(0, 4_294_967_290));
         assert_eq!(rt; shift.count(CoilId::First), 10);
         assert_eq!(rt; shift.count(coil), 4);
-        let mut pile = Reversal::new(shift);
+        let mut pile = Layer::new(Reversed, shift);
         assert_eq!(rt; pile.count(coil), 4_294_967_292);
-        pile.advance(coil, 250)?;
+        pile.advance(coil, Microsteps::from(250))?;
         assert_eq!(rt; pile.count(coil), 246);
         assert_eq!(rt; pile.below().count(coil), 4_294_967_050);
-        pile.feed(coil, 100)?;
-        assert_eq!(rt; pile.points(coil), 100);
+        pile.feed(coil, Points { value: 100 })?;
+        assert_eq!(rt; pile.points(coil).value, 100);
         pile.note(coil, 8);
-        assert_eq!(rt; pile.advance(coil, 1), Err(CoilFault::Tripped(8)));
+        assert_eq!(rt;
+            pile.advance(coil, Microsteps::from(1)),
+            Err(CoilFault::Tripped(8))
+        );
         let bridge = pile.into_below().into_below();
-        assert_eq!(rt; bridge.points(coil), 0);
+        assert_eq!(rt; bridge.points(coil).value, 0);
         assert_eq!(rt; bridge.count(coil), 4_294_967_040);
         assert_eq!(rt; bridge.levels(coil), Levels { a: 0, b: -10_000 });
         Ok(())
@@ -82,13 +86,17 @@ mod tests {
     #[test]
     fn two_of_a_kind(rt: HostRuntime) {
         let coil = CoilId::First;
-        let twice = Reversal::new(Reversal::new(BridgeDriver::new(5, 0)));
+        let twice = Layer::new(Reversed, Layer::new(Reversed, BridgeDriver::new(5, 0)));
         assert_eq!(rt; twice.count(coil), 5);
         assert_eq!(rt; without_reversals(twice).count(coil), 5);
-        let shifts = ZeroShift::new(ZeroShift::new(BridgeDriver::new(5, 0), 4_294_967_290), 9);
+        let lower = Shifted {
+            microsteps: 4_294_967_290,
+        };
+        let upper = Shifted { microsteps: 9 };
+        let shifts = Layer::new(upper, Layer::new(lower, BridgeDriver::new(5, 0)));
         assert_eq!(rt; shifts.count(coil), 8);
         let one = as_one_shift(shifts);
-        assert_eq!(rt; one.shift(), 3);
+        assert_eq!(rt; one.rule().microsteps, 3);
         assert_eq!(rt; one.count(coil), 8);
     }
 }

@@ -1,26 +1,26 @@
 -- What the pulse driver tells beside its meaning: the pulses of each coil's latest accepted advance. Assumes nothing.
 use Rattle.std.specs.Prelude.{◌≡◌, ℕ, ℤ, pos, negsuc, unsigned_abs}
 use Rattle.coil.specs.Chains.{Did}
+use Rattle.coil.specs.Coils.{at}
 use Rattle.coil.specs.Kept.{coils_of}
 use Rattle.coil.specs.Meaning.{Coils}
 use Rattle.coil.specs.declared.CoilCall.{CoilCall}
 use Rattle.coil.specs.declared.CoilCall.TheVariants.{Advance, Feed, Note, Clear}
 use Rattle.coil.specs.declared.CoilId.{CoilId}
 use Rattle.coil.specs.declared.CoilId.TheVariants.{First, Second}
-use Rattle.drivers.specs.declared.pulse.Direction.{Direction}
-use Rattle.drivers.specs.declared.pulse.Direction.TheVariants.{Forward, Backward}
+use Rattle.coil.specs.declared.direction.Direction.{Direction}
+use Rattle.coil.specs.declared.direction.Direction.TheVariants.{Forward, Backward}
 use Rattle.drivers.specs.declared.pulse.PulseDriver.{PulseDriver}
 use Rattle.drivers.specs.declared.pulse.Pulses.{Pulses}
-
--- the number of each direction
-abbrev pub level : Direction → ℕ
-level Forward = 0
-level Backward = 1
 
 -- backward for negative steps, else forward
 abbrev pub heading : ℤ → Direction
 heading (pos n) = Forward
 heading (negsuc n) = Backward
+
+-- before the first advance
+abbrev pub no_pulses : Pulses
+no_pulses = record { direction = Forward; number = 0 }
 
 abbrev pub pulses_for : ℤ → Pulses
 pulses_for steps = record { direction = heading steps; number = unsigned_abs steps }
@@ -40,8 +40,7 @@ latest Second First p call = p
 latest Second Second p call = pulses_after p call
 
 abbrev pub pulses_of : PulseDriver → CoilId → Pulses
-pulses_of d First = d.first
-pulses_of d Second = d.second
+pulses_of d = at d.pulses
 
 abbrev pub pulse_meaning : PulseDriver → Coils
 pulse_meaning d = coils_of d.coils

@@ -1,29 +1,11 @@
 // The pulse driver: two coils, and the pulses of each coil's latest accepted advance.
 ghost use Rattle.std.specs.Prelude.{◌≡◌};
 ghost use Rattle.coil.specs.Meaning.{new_coil};
-ghost use Rattle.drivers.specs.Pulsed.{Pulsed, level, pulses_for, pulses_of, pulse_meaning};
-ghost use Rattle.drivers.specs.declared.pulse.Direction.TheVariants.{Forward};
+ghost use Rattle.coil.specs.declared.CoilId.TheVariants.{First, Second};
+ghost use Rattle.drivers.specs.Pulsed.{Pulsed, no_pulses, pulses_for, pulses_of, pulse_meaning};
 ghost use Rattle.std.proofs.Common.{rules};
 
-use coil::{CoilDriver, CoilFault, CoilId, CoilPair};
-
-#[derive(Clone, Copy, PartialEq, Eq, Debug)]
-pub enum Direction {
-    Forward,
-    Backward,
-}
-
-impl Direction {
-    // The level of the direction line: 1 for negative steps, else 0.
-    pub fn level(self) -> u8
-        ensures { result ≡ level self }
-    {
-        match self {
-            Direction::Forward => 0,
-            Direction::Backward => 1,
-        }
-    }
-}
+use coil::{CoilDriver, CoilFault, CoilId, CoilPair, Direction, Microsteps, PerCoil, Points};
 
 // One advance, as the power stage sees it.
 #[derive(Clone, Copy, PartialEq, Eq, Debug)]
@@ -34,26 +16,25 @@ pub struct Pulses {
 }
 
 impl Pulses {
-    fn none() -> Pulses
-        ensures { result ≡ record { direction = Forward; number = 0 } }
-    {
-        Pulses {
-            direction: Direction::Forward,
-            number: 0,
-        }
-    }
+    // Before the first advance.
+    pub const NONE: Pulses = Pulses {
+        direction: Direction::Forward,
+        number: 0,
+    };
+}
 
-    fn of(steps: i32) -> Pulses
-        ensures { result ≡ pulses_for steps }
-    {
-        let direction = if steps < 0 {
+impl From<Microsteps> for Pulses {
+    ghost from_gives = { λ steps pulses. pulses ≡ pulses_for steps.value };
+
+    fn from(steps: Microsteps) -> Pulses {
+        let direction = if steps.value < 0 {
             Direction::Backward
         } else {
             Direction::Forward
         };
         Pulses {
             direction,
-            number: steps.unsigned_abs(),
+            number: steps.value.unsigned_abs(),
         }
     }
 }
@@ -61,22 +42,23 @@ impl Pulses {
 #[derive(Clone, Copy)]
 pub struct PulseDriver {
     coils: CoilPair,
-    // pulses of each coil's latest accepted advance
-    first: Pulses,
-    second: Pulses,
+    // those of each coil's latest accepted advance
+    pulses: PerCoil<Pulses>,
 }
 
 impl PulseDriver {
     // A driver with these counts, without current, without flags, and with no advance yet.
     pub fn new(first: u32, second: u32) -> PulseDriver
-        ensures meaning { pulse_meaning result ≡ record { one = new_coil first; two = new_coil second } }
-        ensures first { result.first ≡ record { direction = Forward; number = 0 } }
-        ensures second { result.second ≡ record { direction = Forward; number = 0 } }
+        ensures meaning { pulse_meaning result ≡ record { first = new_coil first; second = new_coil second } }
+        ensures first { pulses_of result First ≡ no_pulses }
+        ensures second { pulses_of result Second ≡ no_pulses }
     {
         PulseDriver {
             coils: CoilPair::new(first, second),
-            first: Pulses::none(),
-            second: Pulses::none(),
+            pulses: PerCoil {
+                first: Pulses::NONE,
+                second: Pulses::NONE,
+            },
         }
     }
 
@@ -84,10 +66,7 @@ impl PulseDriver {
     pub fn pulses(&self, coil: CoilId) -> Pulses
         ensures { result ≡ pulses_of self.now coil }
     {
-        match coil {
-            CoilId::First => self.first,
-            CoilId::Second => self.second,
-        }
+        self.pulses[coil]
     }
 }
 
@@ -98,16 +77,13 @@ impl CoilDriver for PulseDriver {
 
     ghost sound = { Prim.search rules };
 
-    fn advance(&mut self, coil: CoilId, steps: i32) -> Result<(), CoilFault> {
+    fn advance(&mut self, coil: CoilId, steps: Microsteps) -> Result<(), CoilFault> {
         self.coils.advance(coil, steps)?;
-        match coil {
-            CoilId::First => self.first = Pulses::of(steps),
-            CoilId::Second => self.second = Pulses::of(steps),
-        }
+        self.pulses[coil] = Pulses::from(steps);
         Ok(())
     }
 
-    fn feed(&mut self, coil: CoilId, points: u8) -> Result<(), CoilFault> {
+    fn feed(&mut self, coil: CoilId, points: Points) -> Result<(), CoilFault> {
         self.coils.feed(coil, points)
     }
 
@@ -123,7 +99,7 @@ impl CoilDriver for PulseDriver {
         self.coils.count(coil)
     }
 
-    fn points(&self, coil: CoilId) -> u8 {
+    fn points(&self, coil: CoilId) -> Points {
         self.coils.points(coil)
     }
 

@@ -1,5 +1,5 @@
 -- What reversal and zero shift make of the coils below them, and of the calls that they pass on. Assumes nothing.
-use Rattle.std.specs.Prelude.{ℕ, ◌+◌, ◌-◌, ◌%◌, ◌^◌, neg_ℤ}
+use Rattle.std.specs.Prelude.{ℕ, ◌+◌, ◌-◌, ◌%◌, ◌^◌, ℤ}
 use Rattle.coil.specs.Chains.{on}
 use Rattle.coil.specs.Meaning.{Coils, with_count}
 use Rattle.coil.specs.declared.CoilCall.{CoilCall}
@@ -8,7 +8,7 @@ use Rattle.coil.specs.declared.DriverCall.{DriverCall}
 
 -- both counts by one rule, while points and flags pass through
 abbrev pub recounted : (ℕ → ℕ) → Coils → Coils
-recounted rule c = record { one = with_count c.one (rule c.one.count); two = with_count c.two (rule c.two.count) }
+recounted rule c = record { first = with_count c.first (rule c.first.count); second = with_count c.second (rule c.second.count) }
 
 -- a count negated, modulo 2 ^ 32; a count is below 2 ^ 32, so the difference is not cut at 0
 abbrev pub negated : ℕ → ℕ
@@ -26,13 +26,13 @@ reversed = recounted negated
 abbrev pub shifted : ℕ → Coils → Coils
 shifted shift = recounted (raised shift)
 
--- the call that reversal makes below: an advance by the steps with their sign turned, any other call as it is
-abbrev pub turned_call : CoilCall → CoilCall
-turned_call (Advance steps) = Advance (neg_ℤ steps)
-turned_call (Feed points) = Feed points
-turned_call (Note flags) = Note flags
-turned_call Clear = Clear
+-- the call that a layer makes below: an advance by the steps that it makes of the steps, any other call as it is
+abbrev pub turned_call : (ℤ → ℤ) → CoilCall → CoilCall
+turned_call turn (Advance steps) = Advance (turn steps)
+turned_call turn (Feed points) = Feed points
+turned_call turn (Note flags) = Note flags
+turned_call turn Clear = Clear
 
 -- the same of a call with its coil
-abbrev pub turned : DriverCall → DriverCall
-turned c = on c.coil (turned_call c.call)
+abbrev pub turned : (ℤ → ℤ) → DriverCall → DriverCall
+turned turn c = on c.coil (turned_call turn c.call)

@@ -1,3 +1,4 @@
 pub mod Layers
 pub mod Piles
 pub mod Recounts
+pub mod Counts

@@ -1,23 +1,24 @@
 -- What a layer means, and which calls it made, over a driver of any kind. Assumes nothing.
-use Rattle.std.specs.Prelude.{◌≡◌}
+use Rattle.std.specs.Prelude.{◌≡◌, ℕ, ℤ}
 use Rattle.coil.specs.Chains.{Did}
 use Rattle.coil.specs.Meaning.{Coils}
-use Rattle.layers.specs.Layers.{reversed, shifted, turned}
-use Rattle.layers.specs.declared.reversal.Reversal.{Reversal}
-use Rattle.layers.specs.declared.zero_shift.ZeroShift.{ZeroShift}
+use Rattle.layers.specs.Layers.{recounted, reversed, shifted, turned}
+use Rattle.layers.specs.declared.layer.Layer.{Layer}
+use Rattle.layers.specs.declared.rules.Reversed.{Reversed}
+use Rattle.layers.specs.declared.rules.Shifted.{Shifted}
 
--- what reversal means over a driver with this meaning
-abbrev pub reversal_meaning : {D : Type 0} → (D → Coils) → Reversal D → Coils
+-- what a layer means over a driver with this meaning
+abbrev pub layer_meaning : {R D : Type 0} → (R → ℕ → ℕ) → (D → Coils) → Layer R D → Coils
+layer_meaning recount meaning x = recounted (recount x.rule) (meaning x.below)
+
+-- the rule stays, and the driver below did the call with its steps turned
+abbrev pub LayerDid : {R D : Type 0} → (R → ℤ → ℤ) → Did D → Did (Layer R D)
+LayerDid turn did x call y = (y.rule ≡ x.rule) × did x.below (turned (turn x.rule) call) y.below
+
+-- what reversal means
+abbrev pub reversal_meaning : {D : Type 0} → (D → Coils) → Layer Reversed D → Coils
 reversal_meaning meaning x = reversed (meaning x.below)
 
--- the driver below did the call with its steps turned
-abbrev pub ReversalDid : {D : Type 0} → Did D → Did (Reversal D)
-ReversalDid did x call y = did x.below (turned call) y.below
-
--- what zero shift means over a driver with this meaning
-abbrev pub shift_meaning : {D : Type 0} → (D → Coils) → ZeroShift D → Coils
-shift_meaning meaning x = shifted x.shift (meaning x.below)
-
--- the shift stays, and the driver below did the same call
-abbrev pub ShiftDid : {D : Type 0} → Did D → Did (ZeroShift D)
-ShiftDid did x call y = (y.shift ≡ x.shift) × did x.below call y.below
+-- what zero shift means
+abbrev pub shift_meaning : {D : Type 0} → (D → Coils) → Layer Shifted D → Coils
+shift_meaning meaning x = shifted x.rule.microsteps (meaning x.below)

@@ -2,8 +2,9 @@
 ghost use Rattle.std.specs.Prelude.{◌≡◌, ◌+◌, ◌%◌, ◌^◌};
 ghost use Rattle.layers.specs.Piles.{reversal_meaning, shift_meaning};
 
-use crate::reversal::Reversal;
-use crate::zero_shift::ZeroShift;
+use crate::layer::Layer;
+use crate::rules::Shifted;
+use crate::{Reversal, ZeroShift};
 use coil::CoilDriver;
 
 // Two reversals mean what the driver below them means.
@@ -16,11 +17,11 @@ pub fn without_reversals<D: CoilDriver>(pile: Reversal<Reversal<D>>) -> D
 
 // Two zero shifts mean one by the sum of both, modulo 2^32.
 pub fn as_one_shift<D: CoilDriver>(pile: ZeroShift<ZeroShift<D>>) -> ZeroShift<D>
-    ensures one { result ≡ record { below = pile.below.below; shift = (pile.below.shift + pile.shift) % 2 ^ 32 } }
+    ensures one { result ≡ record { rule = record { microsteps = (pile.below.rule.microsteps + pile.rule.microsteps) % 2 ^ 32 }; below = pile.below.below } }
     ensures same { shift_meaning D.CoilDriver.meaning result ≡ shift_meaning (shift_meaning D.CoilDriver.meaning) pile }
 {
-    let upper = pile.shift();
+    let upper = pile.rule().microsteps;
     let below = pile.into_below();
-    let shift = below.shift().wrapping_add(upper);
-    ZeroShift::new(below.into_below(), shift)
+    let microsteps = below.rule().microsteps.wrapping_add(upper);
+    Layer::new(Shifted { microsteps }, below.into_below())
 }

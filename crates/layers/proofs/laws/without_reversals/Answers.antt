@@ -1,6 +1,6 @@
 use Rattle.std.proofs.Common.{rules}
 use Rattle.layers.specs.Layers.{negated}
-use Rattle.layers.proofs.Counts.{negated_twice}
+use Rattle.layers.specs.Counts.{negated_twice}
 use Rattle.layers.specs.Recounts.{recounted_same}
 use Rattle.layers.proofs.laws.without_reversals.Goals as goal
 

@@ -4,5 +4,5 @@ use Rattle.coil.proofs.state.CoilState.advance.Goals as goal
 
 pub returns : goal.returns
 returns c =
-    let sum = wrapping_modulo w32 c.args.self.now.count c.args.steps c.ranges.steps in
+    let sum = wrapping_modulo w32 c.args.self.now.count c.args.steps.value (search rules) in
     record { after = search rules; answer = search rules; declined = search rules }

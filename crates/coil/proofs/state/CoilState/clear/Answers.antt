@@ -8,7 +8,7 @@ unfolding cleared
 invariant_of-self c =
     let f = c.args.self.now.flags in
     let s = c.args.self.now.sound in
-    record { sound = (s.0, s.1, cleared_below f, λ e. s.3 (cleared_tripped f s.2 e)) }
+    record { sound = (s.0, cleared_below f, λ e. s.2 (cleared_tripped f s.1 e)) }
 
 pub returns : goal.returns
 unfolding cleared

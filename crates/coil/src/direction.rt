@@ -1,0 +1,19 @@
+// Which way a motor turns.
+ghost use Rattle.std.specs.Prelude.{◌≡◌};
+ghost use Rattle.coil.specs.Directions.{level};
+
+// Forward counts up.
+#[derive(Clone, Copy, PartialEq, Eq, Debug)]
+pub enum Direction {
+    Forward = 0,
+    Backward = 1,
+}
+
+impl Direction {
+    // The level of the direction line: 1 for backward, else 0.
+    pub fn level(self) -> u8
+        ensures { result ≡ level self }
+    {
+        self as u8
+    }
+}
