@@ -3,7 +3,8 @@ use Rattle.std.specs.Prelude.{◌≡◌, ℕ, List, map, ℤ, Option, Result}
 use Rattle.axis.specs.declared.currents.Current.{Current}
 use Rattle.axis.specs.declared.AxisFault.{AxisFault}
 use Rattle.coil.specs.Chains.{Chain, Did, on}
-use Rattle.coil.specs.Meaning.{Coil, Coils, at, put}
+use Rattle.coil.specs.Coils.{at, put}
+use Rattle.coil.specs.Meaning.{Coil, Coils}
 use Rattle.coil.specs.declared.CoilCall.{CoilCall}
 use Rattle.coil.specs.declared.CoilId.{CoilId}
 

@@ -1,15 +1,10 @@
 -- The three current settings of a motor, and which of them it wants. Assumes nothing.
-use Rattle.std.specs.Prelude.{ℕ, Bool, true, false, cond, ℤ, pos, negsuc, Some, None, Option, nat_le}
+use Rattle.std.specs.Prelude.{ℕ, Bool, true, false}
 use Rattle.axis.specs.declared.currents.Current.{Current}
 use Rattle.axis.specs.declared.currents.Current.TheVariants.{Off, Holding, Nominal, Maximum}
 use Rattle.axis.specs.declared.currents.CurrentSetting.{CurrentSetting}
 use Rattle.axis.specs.declared.currents.CurrentSetting.TheVariants as setting
 use Rattle.axis.specs.declared.currents.Currents.{Currents}
-
--- the points that a setting's value means: 0 to 167, or absent
-abbrev pub points_from : ℤ → Option ℕ
-points_from (pos n) = cond (nat_le n 167) (Some n) None
-points_from (negsuc n) = None
 
 -- the settings, in points
 pub record Levels : Type 0 where

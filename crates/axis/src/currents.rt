@@ -1,18 +1,16 @@
 // The three current settings of a motor, in points, and the current that it chooses.
-ghost use Rattle.std.specs.Prelude.{◌≡◌, ◌≤◌};
-ghost use Rattle.axis.specs.Levels.{levels, no_levels, with_level, chosen, is_powered, points_from};
-ghost use Rattle.std.specs.Option.{option_map};
+ghost use Rattle.std.specs.Prelude.{◌≡◌};
+ghost use Rattle.axis.specs.Levels.{levels, no_levels, with_level, chosen, is_powered};
 
-use crate::points::Points;
-use coil::MAX_POINTS;
+use coil::Points;
 
-// Which current a motor chooses; off is no power.
+// Which current a motor chooses, with the number of its code; off is no power.
 #[derive(Clone, Copy, PartialEq, Eq, Debug)]
 pub enum Current {
-    Off,
-    Holding,
-    Nominal,
-    Maximum,
+    Off = 0,
+    Holding = 1,
+    Nominal = 2,
+    Maximum = 3,
 }
 
 // One of a motor's three current settings.
@@ -28,18 +26,6 @@ pub struct Currents {
     pub holding: Points,
     pub nominal: Points,
     pub maximum: Points,
-}
-
-impl Points {
-    // The points that a setting's value means, or none where it is out of range.
-    pub fn from_setting(value: i32) -> Option<Points>
-        ensures { option_map (λ p. p.value) result ≡ points_from value }
-    {
-        if value < 0 || value > MAX_POINTS as i32 {
-            return None;
-        }
-        Some(Points { value: value as u8 })
-    }
 }
 
 impl Current {
@@ -58,11 +44,10 @@ impl Currents {
     pub fn new() -> Currents
         ensures { levels result ≡ no_levels }
     {
-        let none = Points { value: 0 };
         Currents {
-            holding: none,
-            nominal: none,
-            maximum: none,
+            holding: Points::NONE,
+            nominal: Points::NONE,
+            maximum: Points::NONE,
         }
     }
 
@@ -77,15 +62,14 @@ impl Currents {
     }
 
     // The points of a chosen current.
-    pub fn chosen(&self, current: Current) -> u8
-        ensures value { result ≡ chosen current (levels self.now) }
-        ensures within { result ≤ 167 }
+    pub fn chosen(&self, current: Current) -> Points
+        ensures { result.value ≡ chosen current (levels self.now) }
     {
         match current {
-            Current::Off => 0,
-            Current::Holding => self.holding.value,
-            Current::Nominal => self.nominal.value,
-            Current::Maximum => self.maximum.value,
+            Current::Off => Points::NONE,
+            Current::Holding => self.holding,
+            Current::Nominal => self.nominal,
+            Current::Maximum => self.maximum,
         }
     }
 }

@@ -1,19 +1,19 @@
 // What every kind of axis is: one motor on one coil, driven by eight bytes a cycle.
 #![tactic(auto)]
 
-ghost use Rattle.std.specs.Prelude.{◌≡◌, ℕ, true, List, length};
+ghost use Rattle.std.specs.Prelude.{◌≡◌, ℕ, true, List, ok_or};
 ghost use Rattle.axis.specs.Kinds.{Cycled, Kind, Seen, seen};
 ghost use Rattle.axis.specs.declared.AxisFault.TheVariants.{Coil};
 ghost use Rattle.axis.specs.declared.currents.Current.TheVariants.{Off};
-ghost use Rattle.coil.specs.Meaning.{at, tripped};
+ghost use Rattle.coil.specs.Coils.{at};
+ghost use Rattle.coil.specs.Meaning.{tripped};
 
-use coil::{CoilDriver, CoilFault, CoilId};
+use coil::{CoilDriver, CoilFault, CoilId, OutOfRange};
 
 mod currents;
-mod points;
 
+pub use coil::Points;
 pub use currents::{Current, CurrentSetting, Currents};
-pub use points::Points;
 
 // Why an axis could not do what it was ordered.
 #[derive(Clone, Copy, PartialEq, Eq, Debug)]
@@ -46,9 +46,9 @@ pub trait Axis: Copy {
     fn first_config() -> Self::Config
         ensures { result ≡ kind.first_config };
 
-    // The configuration that a value of its register means, or none where it is out of range.
-    fn config(value: i32) -> Option<Self::Config>
-        ensures { result ≡ kind.config value };
+    // The configuration that a value of its register means.
+    fn config(value: i32) -> Result<Self::Config, OutOfRange>
+        ensures { result ≡ ok_or (kind.config value) (record {}) };
 
     fn current(&self) -> Current
         ensures { result ≡ kind.current self.now };
@@ -59,10 +59,9 @@ pub trait Axis: Copy {
         config: Self::Config,
         driver: &mut D,
         coil: CoilId,
-        orders: &[u8],
-        answer: &mut [u8],
+        orders: &[u8; 8],
+        answer: &mut [u8; 8],
     ) -> Result<(), AxisFault>
-        requires { (length orders.now ≡ 8) × (length answer.old ≡ 8) }
         ensures { Cycled D.CoilDriver.meaning D.CoilDriver.did coil (kind.cycle config self.old (seen (at (D.CoilDriver.meaning driver.old) coil)) orders.now) self.new driver.old driver.new answer.new result };
 
     // after a cycle an axis on a tripped coil chooses no current

@@ -1,11 +1,11 @@
 -- The rules of the table: one test of each entry, computed over the whole table.
 use Prim.Native.Nat.{ℕ, ◌+◌, ◌-◌, ◌*◌, ◌<◌, ◌≤◌, min}
-use lib.Dec.{leb, leb→le, T}
-use mathlib.Core.Bool.{Bool, ◌&&◌}
+use lib.Dec.{leb}
+use mathlib.Core.Bool.{Bool, true, ◌&&◌}
 use mathlib.Core.Path.{◌≡◌, refl}
 use native.Mathlib.Omega.{arith}
 use Rattle.bridge.specs.Wave.{QuarterWaveStands, Round, quarter}
-use Rattle.bridge.proofs.Every.{and_left, and_right, every, every_at}
+use Rattle.std.proofs.lemmas.Bool.{agree_below, agree_below_at, and_parts, leb-true}
 
 abbrev squares : ℕ → ℕ
 squares k = quarter k * quarter k + quarter (256 - k) * quarter (256 - k)
@@ -22,30 +22,29 @@ rises k = leb (quarter k) (quarter (min (k + 1) 256))
 abbrev bounded : ℕ → Bool
 bounded k = leb (quarter k) 10000
 
-all_pass : T (every (λ k. (bounded k && rises k) && (least k && most k)) 257)
+abbrev passing : ℕ → Bool
+passing k = (bounded k && rises k) && (least k && most k)
+
+all_pass : agree_below passing (λ _. true) 257 ≡ true
 unfolding quarter
-all_pass = tt
+all_pass = refl
 
 module _ (k : ℕ) (h : k ≤ 256) where
-  passes : T ((bounded k && rises k) && (least k && most k))
-  passes = every_at (λ k. (bounded k && rises k) && (least k && most k)) 257 k all_pass (omega arith)
-
-  climb : T (bounded k && rises k)
-  climb = and_left (bounded k && rises k) (least k && most k) passes
-
-  ring : T (least k && most k)
-  ring = and_right (bounded k && rises k) (least k && most k) passes
+  passes : ((bounded k ≡ true) × (rises k ≡ true)) × ((least k ≡ true) × (most k ≡ true))
+  passes =
+      let both = and_parts (bounded k && rises k) (least k && most k) (agree_below_at passing (λ _. true) 257 k all_pass (omega arith)) in
+      (and_parts (bounded k) (rises k) both.0, and_parts (least k) (most k) both.1)
 
   pub quarter_bound : quarter k ≤ 10000
-  quarter_bound = leb→le (quarter k) 10000 (and_left (bounded k) (rises k) climb)
+  quarter_bound = leb-true (quarter k) 10000 passes.0.0
 
   pub next_rises : quarter k ≤ quarter (min (k + 1) 256)
-  next_rises = leb→le (quarter k) (quarter (min (k + 1) 256)) (and_right (bounded k) (rises k) climb)
+  next_rises = leb-true (quarter k) (quarter (min (k + 1) 256)) passes.0.1
 
   pub quarter_round : Round (squares k)
   quarter_round = record {
-    least = leb→le 100000000 (squares k + 14200) (and_left (least k) (most k) ring);
-    most = leb→le (squares k) (100000000 + 14200) (and_right (least k) (most k) ring);
+    least = leb-true 100000000 (squares k + 14200) passes.1.0;
+    most = leb-true (squares k) (100000000 + 14200) passes.1.1;
   }
 
 never_falls : (k : ℕ) → k < 256 → quarter k ≤ quarter (k + 1)

@@ -1,34 +1,19 @@
 -- Flags stay below 16, and clearing them trips no coil.
-use Rattle.std.proofs.Common.{◌≡◌, ℕ, zero, suc, ◌%◌, ◌<◌, Bool, true, false, cond, not, ◌||◌, eqb, ◌⊎◌, sym, refl, ap, ◌∙◌, inl, inr, mod-eq_of_lt, arith, lit<}
+use Rattle.std.proofs.Common.{◌≡◌, ℕ, ◌%◌, ◌<◌, Bool, true, false, cond, not, ◌||◌, eqb, sym, refl, ap, ◌∙◌, mod-eq_of_lt, arith, lit<}
+use Rattle.std.proofs.lemmas.Bool.{agree_below, agree_below_at}
 use lib.Bits.{bit_and, bit_or, and_le_r, and_mod, or_lt}
 use Rattle.coil.specs.Meaning.{tripped, noted, cleared}
-
--- a test passes at every number below n
-abbrev every : (ℕ → Bool) → ℕ → Bool
-every test zero = true
-every test (suc n) = cond (test n) (every test n) false
-
-every_at : (test : ℕ → Bool) (n k : ℕ) → every test n ≡ true → k < n → test k ≡ true
-every_at test zero k e h = elim h [ ]
-every_at test (suc n) k e h = by (test n) refl (λ rest. every_at test n k rest)
-  where
-    by : (t : Bool) → test n ≡ t → (every test n ≡ true → k < n → test k ≡ true) → test k ≡ true
-    by true is below = elim (last k n h) [ inl same ↦ ap test same ∙ is | inr less ↦ below (sym (ap (λ x. cond x (every test n) false) is) ∙ e) less ]
-      where
-        last : (k n : ℕ) → k < suc n → (k ≡ n) ⊎ (k < n)
-        last k n h = grind arith
-    by false is below = absurd (grind (arith, sym (ap (λ x. cond x (every test n) false) is) ∙ e))
 
 still_tripped : ℕ → Bool
 still_tripped f = cond (tripped (cleared f)) (tripped f) true
 
-all_still : every still_tripped 16 ≡ true
+all_still : agree_below still_tripped (λ _. true) 16 ≡ true
 unfolding still_tripped tripped cleared
 all_still = refl
 
 pub cleared_tripped : (f : ℕ) → f < 16 → tripped (cleared f) ≡ true → tripped f ≡ true
 unfolding still_tripped
-cleared_tripped f h e = sym (ap (λ x. cond x (tripped f) true) e) ∙ every_at still_tripped 16 f all_still h
+cleared_tripped f h e = sym (ap (λ x. cond x (tripped f) true) e) ∙ agree_below_at still_tripped (λ _. true) 16 f all_still h
 
 pub cleared_below : (f : ℕ) → cleared f < 16
 unfolding cleared
@@ -42,14 +27,18 @@ noted_below f g = or_lt 4 (bit_and f 13) (bit_and g 15) (omega (arith, and_le_r 
 stays_untripped : ℕ → ℕ → Bool
 stays_untripped f g = cond (tripped (noted f g)) (tripped f || tripped g) true
 
-all_untripped : every (λ f. every (stays_untripped f) 16) 16 ≡ true
-unfolding stays_untripped tripped noted
+-- that holds at this number with every number below 16
+untripped : ℕ → Bool
+untripped f = agree_below (stays_untripped f) (λ _. true) 16
+
+all_untripped : agree_below untripped (λ _. true) 16 ≡ true
+unfolding untripped stays_untripped tripped noted
 all_untripped = refl
 
 noted_tripped : (f g : ℕ) → f < 16 → g < 16 → tripped (noted f g) ≡ true → tripped g ≡ false → tripped f ≡ true
-unfolding stays_untripped
+unfolding untripped stays_untripped
 noted_tripped f g a b e low =
-    sym (by (tripped f)) ∙ sym (ap (λ t. tripped f || t) low) ∙ sym (ap (λ t. cond t (tripped f || tripped g) true) e) ∙ every_at (stays_untripped f) 16 g (every_at (λ x. every (stays_untripped x) 16) 16 f all_untripped a) b
+    sym (by (tripped f)) ∙ sym (ap (λ t. tripped f || t) low) ∙ sym (ap (λ t. cond t (tripped f || tripped g) true) e) ∙ agree_below_at (stays_untripped f) (λ _. true) 16 g (agree_below_at untripped (λ _. true) 16 f all_untripped a) b
   where
     by : (t : Bool) → t || false ≡ t
     by true = refl

@@ -1,5 +1,5 @@
 -- Which numbers stand for a coil, and which for points. Assumes nothing.
-use Rattle.std.specs.Prelude.{ℕ, suc, zero, cond, ℤ, pos, negsuc, Some, None, Option, nat_le, ◌==◌}
+use Rattle.std.specs.Prelude.{ℕ, cond, ℤ, pos, negsuc, Some, None, Option, nat_le, ◌==◌}
 use Rattle.coil.specs.declared.CoilId.{CoilId}
 use Rattle.coil.specs.declared.CoilId.TheVariants.{First, Second}
 
