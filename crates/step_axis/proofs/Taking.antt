@@ -1,14 +1,16 @@
 -- The words of a cycle, taken one after the other.
-use Rattle.std.proofs.Common.{◌≡◌, ℕ, zero, suc, ◌+◌, ◌*◌, ◌%◌, ◌^◌, ◌<◌, Bool, true, false, cond, not, ◌&&◌, ◌||◌, eqb, List, [], ◌∷◌, ◌++◌, map, length, get_or, take, ℤ, pos, ◌+ℤ◌, ◌*ℤ◌, neg_ℤ, ◌≤ℤ◌, Ok, Err, Result, sym, refl, ap, ◌∙◌, subst, add-zero, mod-eq_of_lt, arith, lit<}
-use Rattle.std.proofs.lemmas.List.{map-append, take_more}
+use Rattle.std.proofs.Common.{◌≡◌, ℕ, zero, suc, ◌+◌, ◌*◌, ◌%◌, ◌^◌, ◌<◌, Bool, true, false, cond, not, ◌&&◌, ◌||◌, eqb, List, [], ◌∷◌, ◌++◌, map, length, get_or, ℤ, pos, ◌+ℤ◌, ◌*ℤ◌, neg_ℤ, ◌≤ℤ◌, Ok, Err, Result, sym, refl, ap, ◌∙◌, subst, add-zero, mod-eq_of_lt, arith, lit<}
+use Rattle.std.proofs.lemmas.List.{length-append, map-append}
 use Rattle.std.proofs.lemmas.Int.{ints}
+use Rattle.std.specs.Result.{MatchResult, is_ok, result_unwrap_or}
 use Rattle.axis.specs.Levels.{is_powered}
 use Rattle.axis.specs.declared.AxisFault.{AxisFault}
 use Rattle.axis.specs.declared.AxisFault.TheVariants as fault
 use Rattle.coil.proofs.Chained.{chain_join}
 use Rattle.coil.proofs.Wraps.{modulo_onto}
 use Rattle.coil.specs.Chains.{Chain, Did, Tried, on}
-use Rattle.coil.specs.Meaning.{Coil, Coils, advanced, answered, at, put, put_same, tripped, with_count}
+use Rattle.coil.specs.Coils.{at, put, put_same}
+use Rattle.coil.specs.Meaning.{Coil, Coils, advanced, answered, tripped, with_count}
 use Rattle.coil.specs.Modulo.{modulo}
 use Rattle.coil.specs.declared.CoilCall.{CoilCall}
 use Rattle.coil.specs.declared.CoilCall.TheVariants.{Advance}
@@ -17,7 +19,7 @@ use Rattle.coil.specs.declared.CoilFault.TheVariants.{Tripped}
 use Rattle.coil.specs.declared.CoilId.{CoilId}
 use Rattle.coil.specs.declared.CoilId.TheVariants.{First, Second}
 use Rattle.coil.specs.declared.DriverCall.{DriverCall}
-use Rattle.step_axis.specs.Taken.{Took, advances, count_after, declined, ending, steps_taken, taken, word_ending}
+use Rattle.step_axis.specs.Taken.{Took, advances, count_after, declined, code_after, ending, steps_taken, taken, taking}
 use Rattle.step_axis.specs.Words.{code, field, steps, word, words}
 
 add_none : (z : ℤ) → z +ℤ pos 0 ≡ z
@@ -151,7 +153,7 @@ pub took_append : {D : Type 0} (meaning : D → Coils) (did : Did D) (i : CoilId
 took_append meaning did i s ws vs d e g p q =
     let c : Coil = at (meaning d) i in
     let n : ℕ = count_after c.count c.flags s ws in
-    let mid : at (meaning e) i ≡ with_count c n = ap (λ m. at m i) p.coils ∙ at_put (meaning d) i (with_count c n) in
+    let mid : at (meaning e) i ≡ with_count c n = ap (λ (m : Coils). at m i) p.coils ∙ at_put (meaning d) i (with_count c n) in
     let same : (at (meaning e) i).flags ≡ c.flags = ap (λ x. x.flags) mid in
     let total : pos c.count +ℤ steps_taken c.flags ws *ℤ pos s +ℤ steps_taken c.flags vs *ℤ pos s ≡ pos c.count +ℤ steps_taken c.flags (ws ++ vs) *ℤ pos s =
     omega (arith, ints, scaled_sum (steps_taken c.flags ws) (steps_taken c.flags vs) s, ap (λ z. z *ℤ pos s) (steps_append c.flags ws vs)) in
@@ -160,12 +162,91 @@ took_append meaning did i s ws vs d e g p q =
     record {
       coils = q.coils
           ∙ ap (λ x. put (meaning e) i (with_count x (count_after x.count x.flags s vs))) mid
-          ∙ ap (λ m. put m i (with_count c (count_after n c.flags s vs))) p.coils
+          ∙ ap (λ (m : Coils). put m i (with_count c (count_after n c.flags s vs))) p.coils
           ∙ put_put (meaning d) i (with_count c n) (with_count c (count_after n c.flags s vs))
           ∙ ap (λ x. put (meaning d) i (with_count c x)) counts;
       calls = chain_join did d e g (map (on i) (advances c.flags s ws)) (map (on i) (advances (at (meaning e) i).flags s vs)) (map (on i) (advances c.flags s (ws ++ vs))) p.calls q.calls
           (ap (λ f. map (on i) (advances c.flags s ws) ++ map (on i) (advances f s vs)) same ∙ sym (map-append (on i) (advances c.flags s ws) (advances c.flags s vs)) ∙ ap (map (on i)) (sym (advances_append c.flags s ws vs)));
     }
+
+-- the words ws have been taken, and none was declined
+pub record SoFar {D : Type 0} (meaning : D → Coils) (did : Did D) (i : CoilId) (s : ℕ) (ws : List ℕ) (d d' : D) (sum : ℤ) : Type 0 where
+  pub took : Took meaning did i s ws d d'
+  pub total : sum ≡ steps_taken (at (meaning d) i).flags ws
+  pub none : declined (at (meaning d) i).flags ws ≡ false
+  pub low : neg_ℤ (pos (8191 * length ws)) ≤ℤ sum
+  pub high : sum ≤ℤ pos (8191 * length ws)
+
+pub so_none : {D : Type 0} (meaning : D → Coils) (did : Did D) (i : CoilId) (s : ℕ) (d : D) → (at (meaning d) i).count < 2 ^ 32 → SoFar meaning did i s [] d d (pos 0)
+so_none meaning did i s d n = record { took = took_nothing meaning did i s [] d n refl refl; total = refl; none = refl; low = omega (arith, ints); high = omega (arith, ints) }
+
+took_flags : {D : Type 0} (meaning : D → Coils) (did : Did D) (i : CoilId) (s : ℕ) (ws : List ℕ) (d e : D) → Took meaning did i s ws d e → (at (meaning e) i).flags ≡ (at (meaning d) i).flags
+took_flags meaning did i s ws d e p =
+    let c : Coil = at (meaning d) i in
+    ap (λ (m : Coils). (at m i).flags) p.coils ∙ ap (λ x. x.flags) (at_put (meaning d) i (with_count c (count_after c.count c.flags s ws)))
+
+-- what the end of a taking says
+ended_well : (f : ℕ) (ws : List ℕ) (z : ℤ) → Ok z ≡ taking f ws → (declined f ws ≡ false) × (z ≡ steps_taken f ws)
+ended_well f ws z r = by (declined f ws) (steps_taken f ws) r
+  where
+    by : (b : Bool) (x : ℤ) → Ok z ≡ cond b (Err (fault.Coil (Tripped f))) (Ok x) → (b ≡ false) × (z ≡ x)
+    by true x e = let y : ◌≡◌ {A = ℕ} 0 1 = cc in absurd (omega arith)
+    by false x e = (refl, cc)
+
+ended_ill : (f : ℕ) (ws : List ℕ) (t : AxisFault) → Err t ≡ taking f ws → (declined f ws ≡ true) × (t ≡ fault.Coil (Tripped f))
+ended_ill f ws t r = by (declined f ws) (steps_taken f ws) r
+  where
+    by : (b : Bool) (x : ℤ) → Err t ≡ cond b (Err (fault.Coil (Tripped f))) (Ok x) → (b ≡ true) × (t ≡ fault.Coil (Tripped f))
+    by true x e = (refl, cc)
+    by false x e = let y : ◌≡◌ {A = ℕ} 0 1 = cc in absurd (omega arith)
+
+only_tripped : (f : ℕ) (ws : List ℕ) → declined f ws ≡ true → tripped f ≡ true
+only_tripped f [] e = let y : ◌≡◌ {A = ℕ} 0 1 = ap (λ t. cond t 1 0) e in absurd (omega arith)
+only_tripped f (w ∷ ws) e = by (is_powered (code w)) (tripped f) (declined f ws) e (only_tripped f ws)
+  where
+    by : (a b c : Bool) → a && b || c ≡ true → (c ≡ true → b ≡ true) → b ≡ true
+    by true true c h rest = refl
+    by true false c h rest = rest h
+    by false b c h rest = rest h
+
+-- a decline among the words declines them all
+declined_there : (f : ℕ) (ws : List ℕ) (n : ℕ) → n < length ws → declined f (get_or ws n 0 ∷ []) ≡ true → declined f ws ≡ true
+declined_there f [] n h e = absurd (omega arith)
+declined_there f (w ∷ ws) zero h e = by (is_powered (code w) && tripped f) (declined f ws) e
+  where
+    by : (a b : Bool) → a || false ≡ true → a || b ≡ true
+    by true b h = refl
+    by false b h = let y : ◌≡◌ {A = ℕ} 0 1 = ap (λ t. cond t 1 0) h in absurd (omega arith)
+declined_there f (w ∷ ws) (suc n) h e = by (is_powered (code w) && tripped f) (declined f ws) (declined_there f ws n (omega arith) e)
+  where
+    by : (a b : Bool) → b ≡ true → a || b ≡ true
+    by true b h = refl
+    by false b h = h
+
+-- of a tripped coil the sum of what was taken is 0, so that it may stand for the sum after a decline
+pub sum_taken : (f : ℕ) (ws : List ℕ) → result_unwrap_or (taking f ws) (pos 0) ≡ steps_taken f ws
+sum_taken f ws = by (declined f ws) (λ t. none_tripped f ws (only_tripped f ws t))
+  where
+    by : (b : Bool) → (b ≡ true → steps_taken f ws ≡ pos 0) → result_unwrap_or (cond b (Err (fault.Coil (Tripped f))) (Ok (steps_taken f ws))) (pos 0) ≡ steps_taken f ws
+    by true none = sym (none refl)
+    by false none = refl
+
+-- the code in force hangs on how the taking ended, and not on the sum
+pub code_then : (f : ℕ) (ws : List ℕ) (last : ℕ) → code_after (taking f ws) last ≡ code_after (ending f ws) last
+code_then f ws last = by (declined f ws)
+  where
+    by : (b : Bool) → code_after (cond b (Err (fault.Coil (Tripped f))) (Ok (steps_taken f ws))) last ≡ code_after {X = Unit {0}} (cond b (Err (fault.Coil (Tripped f))) (Ok tt)) last
+    by true = refl
+    by false = refl
+
+-- the taking without its sum
+pub ended : (P : ℤ → Type 0) (f : ℕ) (ws : List ℕ) (r : Result ℤ AxisFault) (e : Result (Unit {0}) AxisFault) → r ≡ taking f ws → is_ok e ≡ is_ok r → MatchResult r P (λ t. e ≡ Err t) → e ≡ ending f ws
+ended P f ws r e is same cases = by (declined f ws) e (same ∙ ap is_ok is) (subst (λ x. MatchResult x P (λ t. e ≡ Err t)) is cases)
+  where
+    by : (b : Bool) (e : Result (Unit {0}) AxisFault) → is_ok e ≡ is_ok (cond b (Err (fault.Coil (Tripped f))) (Ok (steps_taken f ws))) → MatchResult (cond b (Err (fault.Coil (Tripped f))) (Ok (steps_taken f ws))) P (λ t. e ≡ Err t) → e ≡ cond b (Err (fault.Coil (Tripped f))) (Ok tt)
+    by true e same cases = cases
+    by false (Ok u) same cases = refl
+    by false (Err t) same cases = let y : ◌≡◌ {A = ℕ} 0 1 = ap (λ b. cond b 1 0) same in absurd (omega arith)
 
 pub word_there : (b : List ℕ) (n : ℕ) → n < 4 → get_or (words b) n 0 ≡ word b n
 word_there b zero h = refl
@@ -174,61 +255,8 @@ word_there b (suc (suc zero)) h = refl
 word_there b (suc (suc (suc zero))) h = refl
 word_there b (suc (suc (suc (suc n)))) h = absurd (omega arith)
 
--- n words of a cycle have been taken, and none was declined
-pub record SoFar {D : Type 0} (meaning : D → Coils) (did : Did D) (i : CoilId) (s : ℕ) (b : List ℕ) (d d' : D) (n : ℕ) (sum : ℤ) : Type 0 where
-  pub took : Took meaning did i s (take n (words b)) d d'
-  pub total : sum ≡ steps_taken (at (meaning d) i).flags (take n (words b))
-  pub none : declined (at (meaning d) i).flags (take n (words b)) ≡ false
-  pub low : neg_ℤ (pos (8191 * n)) ≤ℤ sum
-  pub high : sum ≤ℤ pos (8191 * n)
-
-pub so_none : {D : Type 0} (meaning : D → Coils) (did : Did D) (i : CoilId) (s : ℕ) (b : List ℕ) (d : D) → (at (meaning d) i).count < 2 ^ 32 → SoFar meaning did i s b d d 0 (pos 0)
-so_none meaning did i s b d n = record { took = took_nothing meaning did i s [] d n refl refl; total = refl; none = refl; low = omega (arith, ints); high = omega (arith, ints) }
-
-took_flags : {D : Type 0} (meaning : D → Coils) (did : Did D) (i : CoilId) (s : ℕ) (ws : List ℕ) (d e : D) → Took meaning did i s ws d e → (at (meaning e) i).flags ≡ (at (meaning d) i).flags
-took_flags meaning did i s ws d e p =
-    let c : Coil = at (meaning d) i in
-    ap (λ m. (at m i).flags) p.coils ∙ ap (λ x. x.flags) (at_put (meaning d) i (with_count c (count_after c.count c.flags s ws)))
-
-word_ok : (f w : ℕ) (z : ℤ) → Ok z ≡ word_ending f w → (declined f (w ∷ []) ≡ false) × (z ≡ cond (taken f w) (steps w) (pos 0))
-word_ok f w z r = by (declined f (w ∷ [])) (cond (taken f w) (steps w) (pos 0)) r
-  where
-    by : (b : Bool) (x : ℤ) → Ok z ≡ cond b (Err (fault.Coil (Tripped f))) (Ok x) → (b ≡ false) × (z ≡ x)
-    by true x e = let y : ◌≡◌ {A = ℕ} 0 1 = cc in absurd (omega arith)
-    by false x e = (refl, cc)
-
-word_err : (f w : ℕ) (t : AxisFault) → Err t ≡ word_ending f w → (declined f (w ∷ []) ≡ true) × (t ≡ fault.Coil (Tripped f))
-word_err f w t r = by (declined f (w ∷ [])) (cond (taken f w) (steps w) (pos 0)) r
-  where
-    by : (b : Bool) (x : ℤ) → Err t ≡ cond b (Err (fault.Coil (Tripped f))) (Ok x) → (b ≡ true) × (t ≡ fault.Coil (Tripped f))
-    by true x e = (refl, cc)
-    by false x e = let y : ◌≡◌ {A = ℕ} 0 1 = cc in absurd (omega arith)
-
-only_tripped : (f w : ℕ) → declined f (w ∷ []) ≡ true → tripped f ≡ true
-only_tripped f w e = by (is_powered (code w)) (tripped f) e
-  where
-    by : (a b : Bool) → a && b || false ≡ true → b ≡ true
-    by true true h = refl
-    by true false h = h
-    by false b h = let y : ◌≡◌ {A = ℕ} 0 1 = ap (λ t. cond t 1 0) h in absurd (omega arith)
-
-declined_at : (f : ℕ) (ws : List ℕ) (n m : ℕ) → n < m → n < length ws → declined f (get_or ws n 0 ∷ []) ≡ true → declined f (take m ws) ≡ true
-declined_at f [] n m h k e = absurd (omega arith)
-declined_at f (w ∷ ws) zero zero h k e = absurd (omega arith)
-declined_at f (w ∷ ws) zero (suc m) h k e = by (is_powered (code w) && tripped f) (declined f (take m ws)) e
-  where
-    by : (a b : Bool) → a || false ≡ true → a || b ≡ true
-    by true b h = refl
-    by false b h = let y : ◌≡◌ {A = ℕ} 0 1 = ap (λ t. cond t 1 0) h in absurd (omega arith)
-declined_at f (w ∷ ws) (suc n) zero h k e = absurd (omega arith)
-declined_at f (w ∷ ws) (suc n) (suc m) h k e = by (is_powered (code w) && tripped f) (declined f (take m ws)) (declined_at f ws n m (omega arith) (omega arith) e)
-  where
-    by : (a b : Bool) → b ≡ true → a || b ≡ true
-    by true b h = refl
-    by false b h = h
-
-pub within : (f w : ℕ) (z : ℤ) → Ok z ≡ word_ending f w → (neg_ℤ (pos 8191) ≤ℤ z) × (z ≤ℤ pos 8191)
-within f w z r = by (taken f w) (eqb (field w 13 1) 1) (word_ok f w z r).1
+pub within : (f w : ℕ) (z : ℤ) → Ok z ≡ taking f (w ∷ []) → (neg_ℤ (pos 8191) ≤ℤ z) × (z ≤ℤ pos 8191)
+within f w z r = by (taken f w) (eqb (field w 13 1) 1) ((ended_well f (w ∷ []) z r).1 ∙ add_none (cond (taken f w) (steps w) (pos 0)))
   where
     by : (t n : Bool) → z ≡ cond t (cond n (neg_ℤ (pos (field w 0 13))) (pos (field w 0 13))) (pos 0) → (neg_ℤ (pos 8191) ≤ℤ z) × (z ≤ℤ pos 8191)
     by true true e = (omega (arith, ints, e), omega (arith, ints, e))
@@ -236,51 +264,35 @@ within f w z r = by (taken f w) (eqb (field w 13 1) 1) (word_ok f w z r).1
     by false n e = (omega (arith, ints, e), omega (arith, ints, e))
 
 -- one word more
-pub so_more : {D : Type 0} (meaning : D → Coils) (did : Did D) (i : CoilId) (s : ℕ) (b : List ℕ) (d e g : D) (n w : ℕ) (sum z : ℤ) →
-    n < 4 → w ≡ word b n → SoFar meaning did i s b d e n sum → Took meaning did i s (w ∷ []) e g → Ok z ≡ word_ending (at (meaning e) i).flags w →
-    SoFar meaning did i s b d g (n + 1) (sum +ℤ z)
-so_more {D} meaning did i s b d e g n w sum z h is p q r =
-    let w' = within (at (meaning e) i).flags w z r in
+pub so_more : {D : Type 0} (meaning : D → Coils) (did : Did D) (i : CoilId) (s : ℕ) (ws : List ℕ) (d e g : D) (w : ℕ) (sum z : ℤ) →
+    SoFar meaning did i s ws d e sum → Took meaning did i s (w ∷ []) e g → Ok z ≡ taking (at (meaning e) i).flags (w ∷ []) →
+    SoFar meaning did i s (ws ++ w ∷ []) d g (sum +ℤ z)
+so_more meaning did i s ws d e g w sum z p q r =
+    let bounds = within (at (meaning e) i).flags w z r in
     let f : ℕ = (at (meaning d) i).flags in
-    let ws : List ℕ = take n (words b) in
-    let more : take (n + 1) (words b) ≡ ws ++ w ∷ [] = take_more (words b) n 0 h ∙ ap (λ x. ws ++ x ∷ []) (word_there b n h ∙ sym is) in
-    let ok = word_ok f w z (r ∙ ap (λ x. word_ending x w) (took_flags meaning did i s ws d e p.took)) in
-    let last : steps_taken f (w ∷ []) ≡ z = add_none (cond (taken f w) (steps w) (pos 0)) ∙ sym ok.1 in
-    let P : List ℕ → Type 0 = λ vs. Took meaning did i s vs d g in
+    let ok = ended_well f (w ∷ []) z (r ∙ ap (λ x. taking x (w ∷ [])) (took_flags meaning did i s ws d e p.took)) in
+    let longer : length (ws ++ w ∷ []) ≡ length ws + 1 = length-append ws (w ∷ []) in
     record {
-      took = subst P (sym more) (took_append meaning did i s ws (w ∷ []) d e g p.took q);
-      total = ap (λ x. x +ℤ z) p.total ∙ ap (λ x. steps_taken f ws +ℤ x) (sym last) ∙ sym (steps_append f ws (w ∷ [])) ∙ ap (steps_taken f) (sym more);
-      none = ap (declined f) more ∙ declined_append f ws (w ∷ []) ∙ ap (λ x. x || declined f (w ∷ [])) p.none ∙ ok.0;
-      low = omega (arith, ints, p.low, w'.0);
-      high = omega (arith, ints, p.high, w'.1);
+      took = took_append meaning did i s ws (w ∷ []) d e g p.took q;
+      total = ap (λ x. x +ℤ z) p.total ∙ ap (λ x. steps_taken f ws +ℤ x) ok.1 ∙ sym (steps_append f ws (w ∷ []));
+      none = declined_append f ws (w ∷ []) ∙ ap (λ x. x || declined f (w ∷ [])) p.none ∙ ok.0;
+      low = omega (arith, ints, p.low, bounds.0, longer);
+      high = omega (arith, ints, p.high, bounds.1, longer);
     }
 
 -- a word that is declined: the coil is tripped, so that nothing was taken at all
-pub so_declined : {D : Type 0} (meaning : D → Coils) (did : Did D) (i : CoilId) (s : ℕ) (b : List ℕ) (d e g : D) (n m w : ℕ) (sum : ℤ) (t : AxisFault) →
-    n < m → n < 4 → w ≡ word b n → (at (meaning d) i).count < 2 ^ 32 → SoFar meaning did i s b d e n sum → Took meaning did i s (w ∷ []) e g → Err t ≡ word_ending (at (meaning e) i).flags w →
-    Took meaning did i s (take m (words b)) d g × (sum ≡ steps_taken (at (meaning d) i).flags (take m (words b))) × (Err t ≡ ending (at (meaning d) i).flags (take m (words b)))
-so_declined {D} meaning did i s b d e g n m w sum t h k is c p q r =
+pub so_declined : {D : Type 0} (meaning : D → Coils) (did : Did D) (i : CoilId) (s : ℕ) (ws all : List ℕ) (d e g : D) (n : ℕ) (sum : ℤ) (t : AxisFault) →
+    n < length all → (at (meaning d) i).count < 2 ^ 32 → SoFar meaning did i s ws d e sum → Took meaning did i s (get_or all n 0 ∷ []) e g → Err t ≡ taking (at (meaning e) i).flags (get_or all n 0 ∷ []) →
+    Took meaning did i s all d g × (Err t ≡ taking (at (meaning d) i).flags all)
+so_declined {D} meaning did i s ws all d e g n sum t h c p q r =
     let f : ℕ = (at (meaning d) i).flags in
-    let ws : List ℕ = take m (words b) in
-    let same : (at (meaning e) i).flags ≡ f = took_flags meaning did i s (take n (words b)) d e p.took in
-    let err = word_err f w t (r ∙ ap (λ x. word_ending x w) same) in
-    let trip : tripped f ≡ true = only_tripped f w err.0 in
-    let first : e ≡ d = subst (λ cs. Chain did d (map (on i) cs) e) (no_calls_tripped f s (take n (words b)) trip) p.took.calls in
+    let w : ℕ = get_or all n 0 in
+    let same : (at (meaning e) i).flags ≡ f = took_flags meaning did i s ws d e p.took in
+    let err = ended_ill f (w ∷ []) t (r ∙ ap (λ x. taking x (w ∷ [])) same) in
+    let trip : tripped f ≡ true = only_tripped f (w ∷ []) err.0 in
+    let first : e ≡ d = subst (λ cs. Chain did d (map (on i) cs) e) (no_calls_tripped f s ws trip) p.took.calls in
     let second : g ≡ e = subst (λ cs. Chain did e (map (on i) cs) g) (ap (λ x. advances x s (w ∷ [])) same ∙ no_calls_tripped f s (w ∷ []) trip) q.calls in
-    let P : D → Type 0 = λ x. Took meaning did i s ws d x in
-    let there : declined f ws ≡ true = declined_at f (words b) n m h k (ap (λ x. declined f (x ∷ [])) (word_there b n k ∙ sym is) ∙ err.0) in (
-      subst P (sym (second ∙ first)) (took_nothing meaning did i s ws d c (none_tripped f ws trip) (no_calls_tripped f s ws trip)),
-      p.total ∙ none_tripped f (take n (words b)) trip ∙ sym (none_tripped f ws trip),
-      ap Err err.1 ∙ ap (λ x. cond x (Err (fault.Coil (Tripped f))) (Ok tt)) (sym there),
-    )
-
--- all words that count
-pub so_all : {D : Type 0} (meaning : D → Coils) (did : Did D) (i : CoilId) (s : ℕ) (b : List ℕ) (d e : D) (n m : ℕ) (sum : ℤ) → n ≡ m → SoFar meaning did i s b d e n sum →
-    Took meaning did i s (take m (words b)) d e × (sum ≡ steps_taken (at (meaning d) i).flags (take m (words b))) × (Ok tt ≡ ending (at (meaning d) i).flags (take m (words b)))
-so_all {D} meaning did i s b d e n m sum same p =
-    let P : ℕ → Type 0 = λ k. Took meaning did i s (take k (words b)) d e in
-    let f : ℕ = (at (meaning d) i).flags in (
-      subst P same p.took,
-      p.total ∙ ap (λ k. steps_taken f (take k (words b))) same,
-      ap (λ t. cond t (Err (fault.Coil (Tripped f))) (Ok tt)) (sym p.none) ∙ ap (λ k. ending f (take k (words b))) same,
+    let P : D → Type 0 = λ x. Took meaning did i s all d x in (
+      subst P (sym (second ∙ first)) (took_nothing meaning did i s all d c (none_tripped f all trip) (no_calls_tripped f s all trip)),
+      ap Err err.1 ∙ ap (λ x. cond x (Err (fault.Coil (Tripped f))) (Ok (steps_taken f all))) (sym (declined_there f all n h err.0)),
     )

@@ -7,7 +7,8 @@ use Rattle.axis.specs.declared.AxisFault.TheVariants as fault
 use Rattle.axis.specs.declared.currents.Current.{Current}
 use Rattle.axis.specs.declared.currents.Current.TheVariants.{Off}
 use Rattle.coil.specs.Chains.{Chain, Did, on}
-use Rattle.coil.specs.Meaning.{Coils, at, put, tripped, with_count}
+use Rattle.coil.specs.Coils.{at, put}
+use Rattle.coil.specs.Meaning.{Coils, tripped, with_count}
 use Rattle.coil.specs.Modulo.{modulo}
 use Rattle.coil.specs.declared.CoilCall.{CoilCall}
 use Rattle.coil.specs.declared.CoilCall.TheVariants.{Advance}
@@ -40,9 +41,13 @@ declined flags (w ∷ ws) = is_powered (code w) && tripped flags || declined fla
 abbrev pub ending : ℕ → List ℕ → Result (Unit {0}) AxisFault
 ending flags ws = cond (declined flags ws) (Err (fault.Coil (Tripped flags))) (Ok tt)
 
+-- the same with the signed sum of the steps that were taken, where it ends well
+abbrev pub taking : ℕ → List ℕ → Result ℤ AxisFault
+taking flags ws = cond (declined flags ws) (Err (fault.Coil (Tripped flags))) (Ok (steps_taken flags ws))
+
 -- the code in force: the last counted word's, or none after a decline
-abbrev pub code_after : Result (Unit {0}) AxisFault → ℕ → Current
-code_after (Ok u) last = code last
+abbrev pub code_after : {X : Type 0} → Result X AxisFault → ℕ → Current
+code_after (Ok x) last = code last
 code_after (Err e) last = Off
 
 -- the position after a cycle, modulo 2 ^ 16, and the count, modulo 2 ^ 32
@@ -56,10 +61,6 @@ count_after count flags s ws = modulo (2 ^ 32) (pos count +ℤ steps_taken flags
 pub record Took {D : Type 0} (meaning : D → Coils) (did : Did D) (i : CoilId) (s : ℕ) (ws : List ℕ) (d d' : D) : Type 0 where
   pub coils : meaning d' ≡ put (meaning d) i (with_count (at (meaning d) i) (count_after (at (meaning d) i).count (at (meaning d) i).flags s ws))
   pub calls : Chain did d (map (on i) (advances (at (meaning d) i).flags s ws)) d'
-
--- the steps of a word that is taken, or none
-abbrev pub word_ending : ℕ → ℕ → Result ℤ AxisFault
-word_ending flags w = cond (declined flags (w ∷ [])) (Err (fault.Coil (Tripped flags))) (Ok (cond (taken flags w) (steps w) (pos 0)))
 
 -- position, flags, code in force, four zero bytes
 abbrev pub answer_bytes : ℕ → ℕ → Current → List ℕ

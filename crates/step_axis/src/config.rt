@@ -1,13 +1,15 @@
 // How step words are read: how many count in a cycle, and how large a step is.
-ghost use Rattle.std.specs.Prelude.{◌≡◌, ◌≤◌, pos, ◌*ℤ◌, neg_ℤ, ◌≤ℤ◌};
+ghost use Rattle.std.specs.Prelude.{◌≡◌, ◌≤◌, pos, ◌*ℤ◌, neg_ℤ, ◌≤ℤ◌, ok_or};
 ghost use Rattle.step_axis.specs.Words.{word_count, scale, config_from};
+
+use coil::{Microsteps, OutOfRange};
 
 // How many of the four words count.
 #[derive(Clone, Copy, PartialEq, Eq, Debug)]
 pub enum WordCount {
-    One,
-    Two,
-    Four,
+    One = 1,
+    Two = 2,
+    Four = 4,
 }
 
 // The resolution r of a step, which is 2^(8-r) microsteps.
@@ -31,52 +33,49 @@ impl WordCount {
         ensures some { 1 ≤ result }
         ensures most { result ≤ 4 }
     {
-        match self {
-            WordCount::One => 1,
-            WordCount::Two => 2,
-            WordCount::Four => 4,
-        }
+        self as usize
     }
 }
 
 impl Resolution {
     // The microsteps of so many steps.
-    pub(crate) fn microsteps(self, steps: i16) -> i32
+    pub(crate) fn microsteps(self, steps: i16) -> Microsteps
         requires { (neg_ℤ (pos 8191) ≤ℤ steps) × (steps ≤ℤ pos 8191) }
-        ensures value { result ≡ steps *ℤ pos (scale self) }
-        ensures least { neg_ℤ (pos 65535) ≤ℤ result }
-        ensures most { result ≤ℤ pos 65535 }
+        ensures { result.value ≡ steps *ℤ pos (scale self) }
     {
         let steps = i32::from(steps);
-        match self {
+        let value = match self {
             Resolution::Five => steps * 8,
             Resolution::Six => steps * 4,
             Resolution::Seven => steps * 2,
             Resolution::Eight => steps,
-        }
+        };
+        Microsteps { value }
     }
 }
 
-impl StepConfig {
-    // What a value of the configuration register means, or none where it is out of range:
-    // bits 3 and 4 are the word count, bits 5 and 6 the resolution, bit 11 is 1 and all others are 0.
-    pub(crate) fn from_register(value: i32) -> Option<StepConfig>
-        ensures { result ≡ config_from value }
-    {
+// What a value of the configuration register means: bits 3 and 4 are the word count, bits 5 and 6 the resolution,
+// bit 11 is 1 and all others are 0.
+impl TryFrom<i32> for StepConfig {
+    type Error = OutOfRange;
+
+    ghost try_from_gives = { λ value config. config ≡ ok_or (config_from value) (record {}) };
+
+    fn try_from(value: i32) -> Result<StepConfig, OutOfRange> {
         if value < 0 {
-            return None;
+            return Err(OutOfRange);
         }
         let bits = value as u32;
         let words = bits / 8 % 4;
         let resolution = bits / 32 % 4;
         if bits != 0x0800 + words * 8 + resolution * 32 {
-            return None;
+            return Err(OutOfRange);
         }
         let words = match words {
             0 => WordCount::One,
             1 => WordCount::Two,
             2 => WordCount::Four,
-            _ => return None,
+            _ => return Err(OutOfRange),
         };
         let resolution = match resolution {
             0 => Resolution::Five,
@@ -84,6 +83,6 @@ impl StepConfig {
             2 => Resolution::Seven,
             _ => Resolution::Eight,
         };
-        Some(StepConfig { words, resolution })
+        Ok(StepConfig { words, resolution })
     }
 }

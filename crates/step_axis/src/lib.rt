@@ -1,14 +1,14 @@
 // One motor driven by step words: up to four words a cycle, each with signed steps and a current code.
 #![tactic(auto)]
 
-ghost use Rattle.std.specs.Prelude.{◌≡◌, ◌<◌, [], ◌∷◌, length, pos, neg_ℤ, ◌≤ℤ◌};
-ghost use Rattle.coil.specs.Meaning.{at as coil_at};
-ghost use Rattle.step_axis.specs.Taken.{Took, answer_bytes, code_after, ending, step_kind, steps_taken, word_ending};
-ghost use Rattle.step_axis.specs.Words.{code, code_number, counted, last_word, scale, steps, word};
+ghost use Rattle.std.specs.Prelude.{◌≡◌, ◌≤◌, [], ◌∷◌, length, pos, neg_ℤ, ◌≤ℤ◌};
+ghost use Rattle.coil.specs.Coils.{at as coil_at};
+ghost use Rattle.step_axis.specs.Taken.{Took, answer_bytes, code_after, step_kind, taking};
+ghost use Rattle.step_axis.specs.Words.{code, scale, steps, words};
 ghost use Rattle.std.proofs.Common.{rules};
 
 use axis::{Axis, AxisFault, Current};
-use coil::{CoilDriver, CoilId};
+use coil::{CoilDriver, CoilId, OutOfRange};
 
 mod config;
 
@@ -39,24 +39,17 @@ pub fn decode(word: u16) -> (i16, Current)
     (steps, code)
 }
 
-// The number of a current code, as the answer has it.
-fn code_number(code: Current) -> u8
-    ensures { result ≡ code_number code }
+// The four words of a motor's eight bytes.
+fn words_in(orders: &[u8; 8]) -> [u16; 4]
+    ensures { result ≡ words orders.now }
 {
-    match code {
-        Current::Off => 0,
-        Current::Holding => 1,
-        Current::Nominal => 2,
-        Current::Maximum => 3,
-    }
-}
-
-// The word at a place of a motor's eight bytes.
-fn word_at(orders: &[u8], at: usize) -> u16
-    requires { (length orders.now ≡ 8) × (at < 4) }
-    ensures { result ≡ word orders.now at }
-{
-    u16::from_le_bytes([orders[2 * at], orders[2 * at + 1]])
+    let [a, b, c, d, e, f, g, h] = *orders;
+    [
+        u16::from_le_bytes([a, b]),
+        u16::from_le_bytes([c, d]),
+        u16::from_le_bytes([e, f]),
+        u16::from_le_bytes([g, h]),
+    ]
 }
 
 // Takes one word, unless its code is none: the coil advances. Tells the steps that it took.
@@ -67,7 +60,7 @@ fn take_word<D: CoilDriver>(
     word: u16,
 ) -> Result<i16, AxisFault>
     ensures took { Took D.CoilDriver.meaning D.CoilDriver.did coil (scale resolution) (word ∷ []) driver.old driver.new }
-    ensures ending { result ≡ word_ending (coil_at (D.CoilDriver.meaning driver.old) coil).flags word }
+    ensures taking { result ≡ taking (coil_at (D.CoilDriver.meaning driver.old) coil).flags (word ∷ []) }
 {
     let (steps, code) = decode(word);
     if !code.is_powered() {
@@ -77,48 +70,42 @@ fn take_word<D: CoilDriver>(
     Ok(steps)
 }
 
-// Takes the words that count, in order, until the coil declines one. Tells the signed sum of the steps that it took.
+// Takes words in order until the coil declines one. Tells the signed sum of their steps.
 fn take_words<D: CoilDriver>(
-    config: StepConfig,
+    resolution: Resolution,
     driver: &mut D,
     coil: CoilId,
-    orders: &[u8],
-) -> (i16, Result<(), AxisFault>)
-    requires { length orders.now ≡ 8 }
-    ensures took { Took D.CoilDriver.meaning D.CoilDriver.did coil (scale config.resolution) (counted config orders.now) driver.old driver.new }
-    ensures sum { result.0 ≡ steps_taken (coil_at (D.CoilDriver.meaning driver.old) coil).flags (counted config orders.now) }
-    ensures ending { result.1 ≡ ending (coil_at (D.CoilDriver.meaning driver.old) coil).flags (counted config orders.now) }
+    words: &[u16],
+) -> Result<i16, AxisFault>
+    requires { length words.now ≤ 4 }
+    ensures took { Took D.CoilDriver.meaning D.CoilDriver.did coil (scale resolution) words.now driver.old driver.new }
+    ensures taking { result ≡ taking (coil_at (D.CoilDriver.meaning driver.old) coil).flags words.now }
 {
     let mut sum: i16 = 0;
-    for at in 0..config.words.count() {
-        match take_word(config.resolution, driver, coil, word_at(orders, at)) {
-            Ok(steps) => sum += steps,
-            Err(fault) => return (sum, Err(fault)),
-        }
+    for word in words {
+        sum += take_word(resolution, driver, coil, *word)?;
     }
-    (sum, Ok(()))
+    Ok(sum)
 }
 
 // The code of the last word that counts, or none after a decline.
-fn code_in_force(config: StepConfig, orders: &[u8], ended: Result<(), AxisFault>) -> Current
-    requires { length orders.now ≡ 8 }
-    ensures { result ≡ code_after ended (last_word config orders.now) }
+fn code_in_force(last: u16, taken: Result<i16, AxisFault>) -> Current
+    ensures { result ≡ code_after taken last }
 {
-    match ended {
-        Ok(()) => decode(word_at(orders, config.words.count() - 1)).1,
+    match taken {
+        Ok(_) => decode(last).1,
         Err(_) => Current::Off,
     }
 }
 
 impl StepAxis {
     // Position, flags, code in force and four zero bytes.
-    fn show(&self, flags: u8, answer: &mut [u8])
-        requires { length answer.old ≡ 8 }
-        ensures { answer.new ≡ answer_bytes self.now.position flags self.now.current }
+    fn answer(&self, flags: u8) -> [u8; 8]
+        ensures { result ≡ answer_bytes self.now.position flags self.now.current }
     {
         let [low, high] = self.position.to_le_bytes();
-        let code = code_number(self.current);
-        answer.copy_from_slice(&[low, high, flags, code, 0, 0, 0, 0]);
+        let code = self.current as u8;
+        [low, high, flags, code, 0, 0, 0, 0]
     }
 }
 
@@ -145,8 +132,8 @@ impl Axis for StepAxis {
         }
     }
 
-    fn config(value: i32) -> Option<StepConfig> {
-        StepConfig::from_register(value)
+    fn config(value: i32) -> Result<StepConfig, OutOfRange> {
+        StepConfig::try_from(value)
     }
 
     fn current(&self) -> Current {
@@ -158,14 +145,16 @@ impl Axis for StepAxis {
         config: StepConfig,
         driver: &mut D,
         coil: CoilId,
-        orders: &[u8],
-        answer: &mut [u8],
+        orders: &[u8; 8],
+        answer: &mut [u8; 8],
     ) -> Result<(), AxisFault> {
-        let (steps, ended) = take_words(config, driver, coil, orders);
-        self.position = self.position.wrapping_add_signed(steps);
-        self.current = code_in_force(config, orders, ended);
-        self.show(driver.flags(coil), answer);
-        ended
+        let words = words_in(orders);
+        let count = config.words.count();
+        let taken = take_words(config.resolution, driver, coil, &words[..count]);
+        self.position = self.position.wrapping_add_signed(taken.unwrap_or(0));
+        self.current = code_in_force(words[count - 1], taken);
+        *answer = self.answer(driver.flags(coil));
+        taken.map(|_| ())
     }
 }
 
@@ -179,12 +168,12 @@ mod tests {
         assert!(rt; matches!(decode(0xA001), (-1, Current::Nominal)));
         assert!(rt; matches!(decode(0x0005), (5, Current::Off)));
         assert!(rt; matches!(decode(0x9FFF), (8191, Current::Nominal)));
-        assert_eq!(rt; Resolution::Five.microsteps(5), 40);
-        assert_eq!(rt; Resolution::Five.microsteps(8191), 65_528);
+        assert_eq!(rt; Resolution::Five.microsteps(5).value, 40);
+        assert_eq!(rt; Resolution::Five.microsteps(8191).value, 65_528);
     }
 
-    fn config(words: WordCount, resolution: Resolution) -> Option<StepConfig> {
-        Some(StepConfig { words, resolution })
+    fn config(words: WordCount, resolution: Resolution) -> Result<StepConfig, OutOfRange> {
+        Ok(StepConfig { words, resolution })
     }
 
     #[test]
@@ -192,11 +181,11 @@ mod tests {
         let one_five = config(WordCount::One, Resolution::Five);
         let four_five = config(WordCount::Four, Resolution::Five);
         let two_eight = config(WordCount::Two, Resolution::Eight);
-        assert_eq!(rt; StepConfig::from_register(0x0800), one_five);
-        assert_eq!(rt; StepConfig::from_register(0x0810), four_five);
-        assert_eq!(rt; StepConfig::from_register(0x0868), two_eight);
+        assert_eq!(rt; StepConfig::try_from(0x0800), one_five);
+        assert_eq!(rt; StepConfig::try_from(0x0810), four_five);
+        assert_eq!(rt; StepConfig::try_from(0x0868), two_eight);
         for bits in [0x0818, 0x0000, 0x0801, -1, 0x10800] {
-            assert_eq!(rt; StepConfig::from_register(bits), None);
+            assert_eq!(rt; StepConfig::try_from(bits), Err(OutOfRange));
         }
     }
 }

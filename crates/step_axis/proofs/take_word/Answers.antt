@@ -1,6 +1,7 @@
 use Rattle.std.proofs.Common.{◌≡◌, true, false, rules}
 use Rattle.axis.specs.Levels.{is_powered}
-use Rattle.coil.specs.Meaning.{at, tripped}
+use Rattle.coil.specs.Coils.{at}
+use Rattle.coil.specs.Meaning.{tripped}
 use Rattle.step_axis.proofs.Taking.{is_accepted, is_declined, not_taken_off, took_declined, took_not, took_one}
 use Rattle.step_axis.specs.Words.{code}
 use Rattle.step_axis.proofs.take_word.Goals as goal
@@ -12,7 +13,7 @@ returns-in_err-advance g c =
     let p : is_powered (code c.args.word) ≡ true = search rules in
     record {
       took = took_declined g.D.CoilDriver.meaning g.D.CoilDriver.did c.args.coil _ c.args.word c.args.driver.now c.advance.new.self _ (g.met.D.CoilDriver.sound c.args.driver.now c.args.coil).count t c.advance.ensures.calls;
-      ending = search rules;
+      taking = search rules;
     }
 
 pub returns-then-not-is_powered : goal.returns-then-not-is_powered
@@ -21,7 +22,7 @@ returns-then-not-is_powered g c =
     let p : is_powered (code c.args.word) ≡ false = search rules in
     record {
       took = took_not g.D.CoilDriver.meaning g.D.CoilDriver.did c.args.coil _ c.args.word c.args.driver.now (g.met.D.CoilDriver.sound c.args.driver.now c.args.coil).count (not_taken_off flags c.args.word p);
-      ending = search rules;
+      taking = search rules;
     }
 
 pub returns : goal.returns
@@ -31,5 +32,5 @@ returns g c =
     let p : is_powered (code c.args.word) ≡ true = search rules in
     record {
       took = took_one g.D.CoilDriver.meaning g.D.CoilDriver.did c.args.coil _ c.args.word c.args.driver.now c.advance.new.self p f (search rules) (search rules);
-      ending = search rules;
+      taking = search rules;
     }
