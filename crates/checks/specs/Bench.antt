@@ -24,7 +24,7 @@ bench x = stand step_kind pulse_meaning x
 
 -- a module just made over a driver with these counts
 unfoldable pub fresh : ℕ → ℕ → Stand StepConfig StepAxis
-fresh one two = first_stand step_kind (record { one = new_coil one; two = new_coil two })
+fresh one two = first_stand step_kind (record { first = new_coil one; second = new_coil two })
 
 -- a register set in preparation
 unfoldable pub prepared : ℕ → ℕ → Stand StepConfig StepAxis → Stand StepConfig StepAxis

@@ -17,3 +17,17 @@ put c Second x = record { first = c.first; second = x }
 pub put_same : {T : Type 0} (c : PerCoil T) (i : CoilId) → put c i (at c i) ≡ c
 put_same c First = refl
 put_same c Second = refl
+
+pub at_put : {T : Type 0} (c : PerCoil T) (i : CoilId) (x : T) → at (put c i x) i ≡ x
+at_put c First x = refl
+at_put c Second x = refl
+
+pub at_put_other : {T : Type 0} (c : PerCoil T) (i j : CoilId) (x : T) → (i ≡ j → ⊥) → at (put c i x) j ≡ at c j
+at_put_other c First First x ne = absurd (ne refl)
+at_put_other c First Second x ne = refl
+at_put_other c Second First x ne = refl
+at_put_other c Second Second x ne = absurd (ne refl)
+
+pub put_put : {T : Type 0} (c : PerCoil T) (i : CoilId) (x y : T) → put (put c i x) i y ≡ put c i y
+put_put c First x y = refl
+put_put c Second x y = refl

@@ -1,7 +1,8 @@
 -- One call of a module, as a step from stand to stand.
 use Rattle.std.proofs.Common.{◌≡◌, ℕ, Bool, true, false, cond, eqb, List, [], length, ℤ, is_ok, Some, None, Ok, Err, sym, refl, ap, ◌∙◌, subst}
 use Rattle.coil.specs.Chains.{Did}
-use Rattle.coil.specs.Meaning.{Coils, at}
+use Rattle.coil.specs.Coils.{at}
+use Rattle.coil.specs.Meaning.{Coils}
 use Rattle.coil.specs.declared.CoilId.{CoilId}
 use Rattle.coil.specs.declared.CoilId.TheVariants.{First, Second}
 use Rattle.history.specs.Lists.{Event, asked, buffer, half_told}

@@ -1,7 +1,8 @@
 -- How a module stands after any list of calls, and what it tells of each. Assumes nothing.
 use Rattle.std.specs.Prelude.{ℕ, cond, List, [], ◌∷◌, ◌++◌, length, Some, None, Option, ◌==◌}
 use Rattle.axis.specs.Kinds.{Kind}
-use Rattle.coil.specs.Meaning.{Coil, Coils, at}
+use Rattle.coil.specs.Coils.{at}
+use Rattle.coil.specs.Meaning.{Coil, Coils}
 use Rattle.coil.specs.declared.CoilId.{CoilId}
 use Rattle.coil.specs.declared.CoilId.TheVariants.{First, Second}
 use Rattle.coil.specs.declared.DriverCall.{DriverCall}
@@ -28,7 +29,7 @@ coil m = record { count = m.own.count; points = m.points; flags = m.own.flags }
 
 -- a module as it is made over a driver
 abbrev pub first_stand : {C A : Type 0} → Kind C A → Coils → Stand C A
-first_stand k c = record { one = record { own = born k c.one; points = 0 }; two = record { own = born k c.two; points = 0 } }
+first_stand k c = record { one = record { own = born k c.first; points = 0 }; two = record { own = born k c.second; points = 0 } }
 
 -- what is asked, and at which stage
 pub record Query : Type 0 where

@@ -1,7 +1,8 @@
 -- The law, from what running a history promises.
 use Rattle.std.proofs.Common.{◌≡◌, ℕ, ◌+◌, ◌^◌, ◌<◌, ◌≤◌, min, Bool, true, List, ◌∷◌, ◌++◌, pos, ◌+ℤ◌, Some, None, Option, sym, refl, ap, ◌∙◌, subst, arith}
 use Rattle.coil.specs.Chains.{Did}
-use Rattle.coil.specs.Meaning.{Coils, Sound, at}
+use Rattle.coil.specs.Coils.{at}
+use Rattle.coil.specs.Meaning.{Coils, Sound}
 use Rattle.coil.specs.Modulo.{modulo}
 use Rattle.coil.specs.declared.CoilId.{CoilId}
 use Rattle.coil.specs.declared.CoilId.TheVariants.{First, Second}

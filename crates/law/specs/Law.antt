@@ -1,6 +1,7 @@
 -- The law over whole runs: what went in and what came out, for every driver and every list of calls. Assumes nothing.
 use Rattle.std.specs.Prelude.{◌≡◌, ℕ, ◌+◌, ◌^◌, ◌≤◌, min, true, List, [], ◌∷◌, ◌++◌, ℤ, pos, ◌+ℤ◌, Some, None, Option}
-use Rattle.coil.specs.Meaning.{Coil, Coils, at}
+use Rattle.coil.specs.Coils.{at}
+use Rattle.coil.specs.Meaning.{Coil, Coils}
 use Rattle.coil.specs.Modulo.{modulo}
 use Rattle.coil.specs.declared.CoilId.{CoilId}
 use Rattle.history.specs.Stands.{Query, Told}

@@ -1,17 +1,20 @@
 -- The whole effect of each call, put together from what its steps do.
-use Rattle.std.proofs.Common.{◌≡◌, ℕ, Bool, true, false, cond, eqb, ltb, ◌⊎◌, List, [], ◌∷◌, ◌++◌, length, ℤ, is_err, Some, None, Ok, Err, Option, unwrap_or, sym, refl, ap, ◌∙◌, subst, inl, inr, arith, eqb-true}
+use Rattle.std.proofs.Common.{◌≡◌, ℕ, Bool, true, false, cond, eqb, ltb, ◌⊎◌, List, [], ◌∷◌, ◌++◌, length, ℤ, is_err, Some, None, Ok, Err, Option, ok_or, unwrap_or, sym, refl, ap, ◌∙◌, subst, inl, inr, arith, eqb-true}
 use Rattle.axis.specs.Kinds.{Kind}
 use Rattle.axis.specs.declared.currents.CurrentSetting.{CurrentSetting}
 use Rattle.coil.proofs.Chained.{chain_join}
 use Rattle.coil.specs.Chains.{Chain, Did, on}
-use Rattle.coil.specs.Meaning.{Coil, Coils, acknowledged, at, noted, put, reported, tripped}
+use Rattle.coil.specs.Numbers.{coil_numbered}
+use Rattle.coil.specs.declared.error.UnknownCoil.{UnknownCoil}
+use Rattle.coil.specs.Coils.{at, at_put, at_put_other, put}
+use Rattle.coil.specs.Meaning.{Coil, Coils, acknowledged, noted, reported, tripped}
 use Rattle.coil.specs.declared.CoilCall.TheVariants.{Clear, Note}
 use Rattle.coil.specs.declared.CoilId.{CoilId}
 use Rattle.coil.specs.declared.CoilId.TheVariants.{First, Second}
 use Rattle.module.proofs.Setting.{either_way}
-use Rattle.module.proofs.Turns.{at_put, at_put_other, same_share}
+use Rattle.module.proofs.Turns.{same_share}
 use Rattle.module.specs.Called.{Adjusted, Called, Filled, Moved, Shared}
-use Rattle.module.specs.Effects.{Answer, Asked, Deed, acknowledgement, acknowledges, addressee, after, answer, adjusted, calls, concerns, configured, cycle, cycle_calls, cycle_deed, deed, feeds, flags_answer, in_range, half, length_answer, lives, misses, motor_deed, move_calls, moved_share, moves, note_calls, number, of_motor, points_after, report, reports, set_deed, set_motor, set_share, sets, setting, setting_answer, value_answer, with_config, with_currents}
+use Rattle.module.specs.Effects.{Answer, Asked, Deed, acknowledgement, acknowledges, addressee, after, answer, adjusted, calls, concerns, configured, cycle, cycle_calls, cycle_deed, deed, feeds, flags_answer, in_range, half, length_answer, lives, misses, motor_deed, move_calls, moved_share, moves, note_calls, number, points_after, report, reports, set_deed, set_motor, set_share, sets, setting, setting_answer, value_answer, with_config, with_currents}
 use Rattle.module.specs.Share.{Rules, Share, motor_at, powered, share, share_of, wanted}
 use Rattle.module.specs.declared.inner.Inner.{Inner}
 use Rattle.refusal.specs.declared.Refusal.{Refusal}
@@ -41,21 +44,21 @@ either First Second = inr (λ q. let n : ◌≡◌ {A = ℕ} 1 2 = ap number q i
 either Second First = inr (λ q. let n : ◌≡◌ {A = ℕ} 2 1 = ap number q in absurd (omega arith))
 either Second Second = inl refl
 
-pub motor_is : (n : ℕ) (i : CoilId) → of_motor n First Second ≡ Ok i → n ≡ number i
-motor_is n i e = by (eqb n 1) (eqb n 2) refl refl e
+pub motor_is : (n : ℕ) (i : CoilId) (u : UnknownCoil) → ok_or (coil_numbered n) u ≡ Ok i → n ≡ number i
+motor_is n i u e = by (eqb n 1) (eqb n 2) refl refl e
   where
-    by : (a b : Bool) → eqb n 1 ≡ a → eqb n 2 ≡ b → cond a (Ok First) (cond b (Ok Second) (Err UnknownMotor)) ≡ Ok i → n ≡ number i
+    by : (a b : Bool) → eqb n 1 ≡ a → eqb n 2 ≡ b → ok_or (cond a (Some First) (cond b (Some Second) None)) u ≡ Ok i → n ≡ number i
     by true b p q e = let same : First ≡ i = cc in eqb-true n 1 p ∙ ap number same
     by false true p q e = let same : Second ≡ i = cc in eqb-true n 2 q ∙ ap number same
     by false false p q e = let z : ◌≡◌ {A = ℕ} 0 1 = cc in absurd (omega arith)
 
-pub no_motor : (n : ℕ) (r : Refusal) → of_motor n First Second ≡ Err r → (eqb n 1 ≡ false) × (eqb n 2 ≡ false) × (r ≡ UnknownMotor)
-no_motor n r e = by (eqb n 1) (eqb n 2) refl refl e
+pub no_motor : (n : ℕ) (u v : UnknownCoil) → ok_or (coil_numbered n) u ≡ Err v → (eqb n 1 ≡ false) × (eqb n 2 ≡ false)
+no_motor n u v e = by (eqb n 1) (eqb n 2) refl refl e
   where
-    by : (a b : Bool) → eqb n 1 ≡ a → eqb n 2 ≡ b → cond a (Ok First) (cond b (Ok Second) (Err UnknownMotor)) ≡ Err r → (eqb n 1 ≡ false) × (eqb n 2 ≡ false) × (r ≡ UnknownMotor)
+    by : (a b : Bool) → eqb n 1 ≡ a → eqb n 2 ≡ b → ok_or (cond a (Some First) (cond b (Some Second) None)) u ≡ Err v → (eqb n 1 ≡ false) × (eqb n 2 ≡ false)
     by true b p q e = let z : ◌≡◌ {A = ℕ} 0 1 = cc in absurd (omega arith)
     by false true p q e = let z : ◌≡◌ {A = ℕ} 0 1 = cc in absurd (omega arith)
-    by false false p q e = (p, q, cc)
+    by false false p q e = (p, q)
 
 own_deed : (i : CoilId) (d : Deed) → motor_deed i (number i) d ≡ Some d
 own_deed First d = refl
@@ -81,12 +84,12 @@ called_motor : {C A D : Type 0} (k : Rules C A) (meaning : D → Coils) (did : D
     Called k meaning did Running asked x (with_driver x e) (Ok tt)
 called_motor {C} {A} {D} k meaning did asked d i x e c mine others num coils own points chain =
     let y : Inner A D C = with_driver x e in
-    let there : at (meaning e) i ≡ c = ap (λ z. at z i) coils ∙ at_put (meaning x.driver) i c in
+    let there : at (meaning e) i ≡ c = ap (λ (z : Coils). at z i) coils ∙ at_put (meaning x.driver) i c in
     let P : CoilId → Type 0 = λ j. share k.kind meaning y j ≡ lives k j (share k.kind meaning x j) (deed k.lines Running j asked) in
     let w : ℕ = wanted k.kind (share k.kind meaning y First) in
     let v : ℕ = wanted k.kind (share k.kind meaning y Second) in
     let Q : CoilId → Type 0 = λ j. (at (meaning e) j).points ≡ points_after j (at (meaning x.driver) j) w v (deed k.lines Running j asked) in
-    let still : (j : CoilId) → (i ≡ j → ⊥) → at (meaning e) j ≡ at (meaning x.driver) j = λ j ne. ap (λ z. at z j) coils ∙ at_put_other (meaning x.driver) i j c ne in
+    let still : (j : CoilId) → (i ≡ j → ⊥) → at (meaning e) j ≡ at (meaning x.driver) j = λ j ne. ap (λ (z : Coils). at z j) coils ∙ at_put_other (meaning x.driver) i j c ne in
     record {
       number = num;
       motors = λ j. elim (either i j) [
@@ -201,19 +204,19 @@ called_cycle {C} {A} {D} k meaning did x y z orders bytes room p q m s =
 pub filled : {C A D : Type 0} (k : Rules C A) (meaning : D → Coils) (did : Did D) (x y : Inner A D C) (orders before bytes : List ℕ) → Moved k.kind meaning did x y orders bytes → Filled k meaning x orders before bytes (Ok tt)
 filled k meaning did x y orders before bytes m = record { halves = λ i _. m.halves i; untouched = no_refusal }
 
-pub not_filled : {C A D : Type 0} (k : Rules C A) (meaning : D → Coils) (x : Inner A D C) (orders before : List ℕ) (e : Refusal) → Filled k meaning x orders before before (Err e)
-not_filled k meaning x orders before e = record { halves = λ i h. let n : ◌≡◌ {A = ℕ} 0 1 = ap (λ t. cond t 1 0) h in absurd (omega arith); untouched = λ _. refl }
+pub not_filled : {C A D : Type 0} (k : Rules C A) (meaning : D → Coils) (x : Inner A D C) (orders before bytes : List ℕ) (e : Refusal) → bytes ≡ before → Filled k meaning x orders before bytes (Err e)
+not_filled k meaning x orders before bytes e same = record { halves = λ i h. let n : ◌≡◌ {A = ℕ} 0 1 = ap (λ t. cond t 1 0) h in absurd (omega arith); untouched = λ _. same }
 
 -- a cycle of other lengths: each motor misses it
 missed : {C A D : Type 0} (k : Rules C A) (meaning : D → Coils) (did : Did D) (x : Inner A D C) (orders : List ℕ) (room : ℕ) (e : Refusal) → Err e ≡ length_answer (length orders) room →
     ((i : CoilId) → cycle_deed i orders room ≡ misses (length orders) room) → calls k (share k.kind meaning x First) (share k.kind meaning x Second) (cycle orders room) ≡ [] → Called k meaning did Running (cycle orders room) x x (Err e)
 missed k meaning did x orders room e num deeds none = untouched k meaning did Running (cycle orders room) x (Err e) num (λ i. ap (λ d. lives k i (share k.kind meaning x i) (Some d)) (deeds i)) (λ i c w v. ap (λ d. points_after i c w v (Some d)) (deeds i)) none
 
-pub record_length : {C A D : Type 0} (k : Rules C A) (meaning : D → Coils) (did : Did D) (x : Inner A D C) (orders : List ℕ) (room : ℕ) → eqb (length orders) 16 ≡ false → Called k meaning did Running (cycle orders room) x x (Err RecordLength)
-record_length k meaning did x orders room p = missed k meaning did x orders room RecordLength
+pub record_length : {C A D : Type 0} (k : Rules C A) (meaning : D → Coils) (did : Did D) (x : Inner A D C) (orders : List ℕ) (room : ℕ) (r : Answer) → r ≡ Err RecordLength → eqb (length orders) 16 ≡ false → Called k meaning did Running (cycle orders room) x x r
+record_length k meaning did x orders room r e p = subst (Called k meaning did Running (cycle orders room) x x) (sym e) (missed k meaning did x orders room RecordLength
     (ap (λ t. cond t (cond (eqb room 16) (Ok tt) (Err AnswerLength)) (Err RecordLength)) (sym p))
     (λ i. ap (λ t. cond t (cond (eqb room 16) (moves (half i orders)) (misses (length orders) room)) (misses (length orders) room)) p)
-    (ap (λ t. cond t (cond (eqb room 16) (cycle_calls k (share k.kind meaning x First) (share k.kind meaning x Second) orders) []) []) p)
+    (ap (λ t. cond t (cond (eqb room 16) (cycle_calls k (share k.kind meaning x First) (share k.kind meaning x Second) orders) []) []) p))
 
 pub answer_length : {C A D : Type 0} (k : Rules C A) (meaning : D → Coils) (did : Did D) (x : Inner A D C) (orders : List ℕ) (room : ℕ) → eqb (length orders) 16 ≡ true → eqb room 16 ≡ false → Called k meaning did Running (cycle orders room) x x (Err AnswerLength)
 answer_length k meaning did x orders room p q = missed k meaning did x orders room AnswerLength

@@ -3,7 +3,8 @@ use Rattle.std.proofs.Common.{◌≡◌, ℕ, Bool, true, false, cond, not, ◌&
 use Rattle.axis.specs.Kinds.{Kind}
 use Rattle.axis.specs.Levels.{chosen, levels, no_levels}
 use Rattle.coil.specs.Chains.{Did, Tried, on}
-use Rattle.coil.specs.Meaning.{Coil, Coils, at, declines_feed, fed, put, tripped}
+use Rattle.coil.specs.Coils.{at, put}
+use Rattle.coil.specs.Meaning.{Coil, Coils, declines_feed, fed, tripped}
 use Rattle.coil.specs.declared.CoilCall.TheVariants.{Feed}
 use Rattle.coil.specs.declared.CoilId.{CoilId}
 use Rattle.coil.specs.declared.CoilId.TheVariants.{First, Second}
@@ -40,18 +41,18 @@ fed_both {C} {A} {D} k meaning did x s e f p q rested pe qe m t n u =
     let v : ℕ = wanted k (share k meaning x Second) in
     let first = accepted meaning did First x.driver e p
     (not_declined (tripped (at (meaning x.driver) First).flags) p (λ trip. pe ∙ ap (λ c. chosen c (share k meaning x First).currents) (rested First trip))) m t in
-    let two : at (meaning e) Second ≡ at (meaning x.driver) Second = ap (λ c. at c Second) first.0 in
+    let two : at (meaning e) Second ≡ at (meaning x.driver) Second = ap (λ (c : Coils). at c Second) first.0 in
     let none : tripped (at (meaning e) Second).flags ≡ true → v ≡ 0 = λ trip. ap (λ c. chosen c (share k meaning x Second).currents) (rested Second (sym (ap (λ c. tripped c.flags) two) ∙ trip)) in
     let second = accepted meaning did Second e f q
     (not_declined (tripped (at (meaning e) Second).flags) q (λ trip. let z = none trip in omega (arith, qe))) n u in
-    let coils : meaning f ≡ record { one = refed (meaning x.driver).one p; two = refed (meaning x.driver).two q } = second.0 ∙ ap (λ c. put c Second (refed (at c Second) q)) first.0 in
+    let coils : meaning f ≡ record { first = refed (meaning x.driver).first p; second = refed (meaning x.driver).second q } = second.0 ∙ ap (λ (c : Coils). put c Second (refed (at c Second) q)) first.0 in
     let y : Inner A D C = record { configuration = x.configuration; motors = x.motors; cycles = x.cycles; supply = s; driver = f } in
     record {
       motors = λ i. elim i as (λ i. share k meaning y i ≡ share k meaning x i) [
-        | First ↦ same_share (share k meaning y First) (share k meaning x First) refl refl refl refl refl (ap (λ c. c.one.count) coils) (ap (λ c. c.one.flags) coils)
-        | Second ↦ same_share (share k meaning y Second) (share k meaning x Second) refl refl refl refl refl (ap (λ c. c.two.count) coils) (ap (λ c. c.two.flags) coils)
+        | First ↦ same_share (share k meaning y First) (share k meaning x First) refl refl refl refl refl (ap (λ (c : Coils). c.first.count) coils) (ap (λ (c : Coils). c.first.flags) coils)
+        | Second ↦ same_share (share k meaning y Second) (share k meaning x Second) refl refl refl refl refl (ap (λ (c : Coils). c.second.count) coils) (ap (λ (c : Coils). c.second.flags) coils)
       ];
-      points = λ i. elim i as (λ i. (at (meaning f) i).points ≡ granted i w v) [ First ↦ ap (λ c. c.one.points) coils ∙ pe | Second ↦ ap (λ c. c.two.points) coils ∙ qe ];
+      points = λ i. elim i as (λ i. (at (meaning f) i).points ≡ granted i w v) [ First ↦ ap (λ (c : Coils). c.first.points) coils ∙ pe | Second ↦ ap (λ (c : Coils). c.second.points) coils ∙ qe ];
       driver = (e, (subst (λ z. did x.driver (on First (Feed z)) e) pe first.1, (f, (subst (λ z. did e (on Second (Feed z)) f) qe second.1, refl))));
     }
 
@@ -75,13 +76,13 @@ pub made : {C A D : Type 0} (k : Kind C A) (meaning : D → Coils) (did : Did D)
 made {C} {A} {D} k meaning did d e f config a b s ce aa ac af ba bc bf m t n u =
     let first = accepted meaning did First d e 0 (not_declined (tripped (at (meaning d) First).flags) 0 (λ _. refl)) m t in
     let second = accepted meaning did Second e f 0 (not_declined (tripped (at (meaning e) Second).flags) 0 (λ _. refl)) n u in
-    let coils : meaning f ≡ record { one = refed (meaning d).one 0; two = refed (meaning d).two 0 } = second.0 ∙ ap (λ c. put c Second (refed (at c Second) 0)) first.0 in
+    let coils : meaning f ≡ record { first = refed (meaning d).first 0; second = refed (meaning d).second 0 } = second.0 ∙ ap (λ (c : Coils). put c Second (refed (at c Second) 0)) first.0 in
     let x : Inner A D C = record { configuration = record { model = config }; motors = a ∷ b ∷ []; cycles = 0; supply = s; driver = f } in
     record {
       motors = λ i. elim i as (λ i. share k meaning x i ≡ born k (at (meaning d) i)) [
-        | First ↦ new_motor k config a (meaning f).one (meaning d).one ce aa ac af (ap (λ c. c.one.count) coils) (ap (λ c. c.one.flags) coils)
-        | Second ↦ new_motor k config b (meaning f).two (meaning d).two ce ba bc bf (ap (λ c. c.two.count) coils) (ap (λ c. c.two.flags) coils)
+        | First ↦ new_motor k config a (meaning f).first (meaning d).first ce aa ac af (ap (λ (c : Coils). c.first.count) coils) (ap (λ (c : Coils). c.first.flags) coils)
+        | Second ↦ new_motor k config b (meaning f).second (meaning d).second ce ba bc bf (ap (λ (c : Coils). c.second.count) coils) (ap (λ (c : Coils). c.second.flags) coils)
       ];
-      points = λ i. elim i as (λ i. (at (meaning f) i).points ≡ 0) [ First ↦ ap (λ c. c.one.points) coils | Second ↦ ap (λ c. c.two.points) coils ];
+      points = λ i. elim i as (λ i. (at (meaning f) i).points ≡ 0) [ First ↦ ap (λ (c : Coils). c.first.points) coils | Second ↦ ap (λ (c : Coils). c.second.points) coils ];
       driver = (e, (first.1, (f, (second.1, refl))));
     }

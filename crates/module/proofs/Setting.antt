@@ -1,9 +1,11 @@
 -- Settings: what each answer of the gate leaves.
 use Rattle.std.proofs.Common.{◌≡◌, ℕ, ◌<◌, Bool, true, false, cond, length, get_or, set, ℤ, is_err, Some, None, Ok, Err, sym, refl, ap, ◌∙◌, arith}
 use Rattle.axis.specs.Kinds.{Kind}
-use Rattle.axis.specs.Levels.{levels, points_from, with_level}
+use Rattle.axis.specs.Levels.{levels, with_level}
 use Rattle.axis.specs.declared.currents.CurrentSetting.{CurrentSetting}
-use Rattle.coil.specs.Meaning.{Coils, at}
+use Rattle.coil.specs.Numbers.{points_from}
+use Rattle.coil.specs.Coils.{at}
+use Rattle.coil.specs.Meaning.{Coils}
 use Rattle.coil.specs.declared.CoilId.{CoilId}
 use Rattle.coil.specs.declared.CoilId.TheVariants.{First, Second}
 use Rattle.module.proofs.Table.{motor_put, motor_there}

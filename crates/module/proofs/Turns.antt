@@ -1,13 +1,15 @@
 -- Both motors move, one after the other: neither shows in the other's share.
-use Rattle.std.proofs.Common.{◌≡◌, ℕ, true, List, ◌++◌, set, Option, sym, refl, ap, ◌∙◌, subst, arith, get_or-set_other}
+use Rattle.std.proofs.Common.{◌≡◌, ℕ, true, List, ◌++◌, length, set, Option, sym, refl, ap, ◌∙◌, subst, arith, get_or-set_other}
 use Rattle.axis.specs.Kinds.{Kind, Outcome, Seen, moved}
 use Rattle.axis.specs.Levels.{Levels, levels}
 use Rattle.axis.specs.declared.currents.Current.TheVariants.{Off}
 use Rattle.coil.proofs.Chained.{chain_join}
 use Rattle.coil.specs.Chains.{Did}
-use Rattle.coil.specs.Meaning.{Coil, Coils, at, put, tripped}
+use Rattle.coil.specs.Coils.{at, at_put, at_put_other, put}
+use Rattle.coil.specs.Meaning.{Coils, tripped}
 use Rattle.coil.specs.declared.CoilId.{CoilId}
 use Rattle.coil.specs.declared.CoilId.TheVariants.{First, Second}
+use Rattle.module.proofs.Cuts.{kept, past}
 use Rattle.module.specs.Called.{Moved, Rested, Turn}
 use Rattle.module.specs.Effects.{half, move_calls, moved_share, next_cycle, outcome}
 use Rattle.module.specs.Motors.{latest}
@@ -27,10 +29,6 @@ same_share {C} {A} h g config axis currents fault cycles count flags =
     ∙ ap (λ z. make g.config g.axis g.currents g.fault g.cycles z h.flags) count
     ∙ ap (λ z. make g.config g.axis g.currents g.fault g.cycles g.count z) flags
 
-pub at_put : (c : Coils) (i : CoilId) (x : Coil) → at (put c i x) i ≡ x
-at_put c First x = refl
-at_put c Second x = refl
-
 -- the share after a turn, whose cycle has its number already
 abbrev turned_share : {C A : Type 0} → Kind C A → CoilId → Share C A → List ℕ → Share C A
 turned_share k i h orders = record {
@@ -47,7 +45,7 @@ pub own_share : {C A D : Type 0} (k : Kind C A) (meaning : D → Coils) (did : D
     Turn k meaning did i x y orders bytes → share k meaning y i ≡ turned_share k i (share k meaning x i) orders
 own_share k meaning did i x y orders bytes t =
     let o = outcome k (share k meaning x i) orders in
-    let coil : at (meaning y.driver) i ≡ moved (at (meaning x.driver) i) o = ap (λ m. at m i) t.turned.coils ∙ at_put (meaning x.driver) i (moved (at (meaning x.driver) i) o) in
+    let coil : at (meaning y.driver) i ≡ moved (at (meaning x.driver) i) o = ap (λ (m : Coils). at m i) t.turned.coils ∙ at_put (meaning x.driver) i (moved (at (meaning x.driver) i) o) in
     same_share (share k meaning y i) (turned_share k i (share k meaning x i) orders)
     (ap (λ c. c.model) t.configuration) t.turned.axis (ap levels t.turned.currents) t.turned.fault t.cycles (ap (λ c. c.count) coil) (ap (λ c. c.flags) coil)
 
@@ -57,23 +55,17 @@ other_motor k First Second ms m ne = get_or-set_other ms 0 1 m (idle k) (λ e. a
 other_motor k Second First ms m ne = get_or-set_other ms 1 0 m (idle k) (λ e. absurd (omega arith))
 other_motor k Second Second ms m ne = absurd (ne refl)
 
-pub at_put_other : (c : Coils) (i j : CoilId) (x : Coil) → (i ≡ j → ⊥) → at (put c i x) j ≡ at c j
-at_put_other c First First x ne = absurd (ne refl)
-at_put_other c First Second x ne = refl
-at_put_other c Second First x ne = refl
-at_put_other c Second Second x ne = absurd (ne refl)
-
 pub other_share : {C A D : Type 0} (k : Kind C A) (meaning : D → Coils) (did : Did D) (i j : CoilId) (x y : Inner A D C) (orders bytes : List ℕ) →
     Turn k meaning did i x y orders bytes → (i ≡ j → ⊥) → share k meaning y j ≡ share k meaning x j
 other_share k meaning did i j x y orders bytes t ne =
     let m : motor_at k y.motors j ≡ motor_at k x.motors j = ap (λ ms. motor_at k ms j) t.motors ∙ other_motor k i j x.motors (motor_at k y.motors i) ne in
-    let c : at (meaning y.driver) j ≡ at (meaning x.driver) j = ap (λ z. at z j) t.turned.coils ∙ at_put_other (meaning x.driver) i j _ ne in
+    let c : at (meaning y.driver) j ≡ at (meaning x.driver) j = ap (λ (z : Coils). at z j) t.turned.coils ∙ at_put_other (meaning x.driver) i j _ ne in
     same_share (share k meaning y j) (share k meaning x j)
     (ap (λ z. z.model) t.configuration) (ap (λ z. z.axis) m) (ap (λ z. levels z.currents) m) (ap (λ z. z.fault) m) t.cycles (ap (λ z. z.count) c) (ap (λ z. z.flags) c)
 
 points_turn : {C A D : Type 0} (k : Kind C A) (meaning : D → Coils) (did : Did D) (i j : CoilId) (x y : Inner A D C) (orders bytes : List ℕ) →
     Turn k meaning did i x y orders bytes → (at (meaning y.driver) j).points ≡ (at (meaning x.driver) j).points
-points_turn k meaning did i j x y orders bytes t = ap (λ m. (at m j).points) t.turned.coils ∙ by (meaning x.driver) i j (outcome k (share k meaning x i) orders)
+points_turn k meaning did i j x y orders bytes t = ap (λ (m : Coils). (at m j).points) t.turned.coils ∙ by (meaning x.driver) i j (outcome k (share k meaning x i) orders)
   where
     by : {A : Type 0} (c : Coils) (i j : CoilId) (o : Outcome A) → (at (put c i (moved (at c i) o)) j).points ≡ (at c j).points
     by c First First o = refl
@@ -115,11 +107,16 @@ both_moved {C} {A} {D} k meaning did x y z orders a b bytes law t u e f =
       rested = λ i. rested_share k meaning i (share k meaning x i) z (half i orders) law (motors i);
     }
 
--- the same, where the halves of the record came by a split
-pub split_moved : {C A D : Type 0} (k : Kind C A) (meaning : D → Coils) (did : Did D) (x y z : Inner A D C) (orders o p a b bytes : List ℕ) → Rests k →
-    o ≡ half First orders → p ≡ half Second orders → Turn k meaning did First (numbered x) y o a → Turn k meaning did Second y z p b → half First bytes ≡ a → half Second bytes ≡ b →
-    Moved k meaning did x z orders bytes
-split_moved k meaning did x y z orders o p a b bytes law oe pe t u e f =
+-- two lists of eight bytes, one after the other, are the halves of what they make
+halved : (xs ys : List ℕ) → length xs ≡ 8 → (half First (xs ++ ys) ≡ xs) × (half Second (xs ++ ys) ≡ ys)
+halved xs ys e = (kept 8 xs ys e, past 8 xs ys e)
+
+-- the same, where record and answer come as halves
+pub halves_moved : {C A D : Type 0} (k : Kind C A) (meaning : D → Coils) (did : Did D) (x y z : Inner A D C) (o p a b : List ℕ) → Rests k → length o ≡ 8 → length a ≡ 8 →
+    Turn k meaning did First (numbered x) y o a → Turn k meaning did Second y z p b → Moved k meaning did x z (o ++ p) (a ++ b)
+halves_moved k meaning did x y z o p a b law n m t u =
+    let orders = halved o p n in
+    let bytes = halved a b m in
     let P : List ℕ → Type 0 = λ w. Turn k meaning did First (numbered x) y w a in
     let Q : List ℕ → Type 0 = λ w. Turn k meaning did Second y z w b in
-    both_moved k meaning did x y z orders a b bytes law (subst P oe t) (subst Q pe u) e f
+    both_moved k meaning did x y z (o ++ p) a b (a ++ b) law (subst P (sym orders.0) t) (subst Q (sym orders.1) u) bytes.0 bytes.1

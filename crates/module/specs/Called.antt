@@ -1,7 +1,8 @@
 -- The whole effect of a call: what then stands in module and driver, and what came back. Assumes nothing.
 use Rattle.std.specs.Prelude.{◌≡◌, ℕ, true, List, ◌++◌, ℤ, is_ok, is_err, slice_set}
 use Rattle.coil.specs.Chains.{Chain, Did}
-use Rattle.coil.specs.Meaning.{Coils, at, tripped}
+use Rattle.coil.specs.Coils.{at}
+use Rattle.coil.specs.Meaning.{Coils, tripped}
 use Rattle.coil.specs.declared.CoilId.{CoilId}
 use Rattle.coil.specs.declared.CoilId.TheVariants.{First, Second}
 use Rattle.axis.specs.Kinds.{Kind, seen}

@@ -1,8 +1,9 @@
 -- What each call of a module does to each motor, what it answers, and which driver calls it makes. Assumes nothing.
 use Rattle.std.specs.Prelude.{ℕ, ◌+◌, ◌%◌, ◌^◌, Bool, true, false, cond, List, [], ◌∷◌, ◌++◌, map, length, take, drop, ℤ, Some, None, Ok, Err, Option, Result, ◌==◌, nat_lt}
 use Rattle.axis.specs.Kinds.{Kind, Outcome}
-use Rattle.axis.specs.Levels.{Levels, points_from, with_level}
+use Rattle.axis.specs.Levels.{Levels, with_level}
 use Rattle.axis.specs.declared.currents.CurrentSetting.{CurrentSetting}
+use Rattle.coil.specs.Numbers.{points_from}
 use Rattle.coil.specs.Chains.{on}
 use Rattle.coil.specs.Meaning.{Coil, cleared, noted, tripped}
 use Rattle.coil.specs.declared.CoilCall.TheVariants.{Feed, Note, Clear}

@@ -3,7 +3,8 @@ use Rattle.std.specs.Prelude.{◌≡◌, ℕ, List, map, Some, Ok, Err, Option, 
 use Rattle.axis.specs.Kinds.{Outcome, moved}
 use Rattle.axis.specs.declared.AxisFault.{AxisFault}
 use Rattle.coil.specs.Chains.{Chain, Did, on}
-use Rattle.coil.specs.Meaning.{Coils, at, put}
+use Rattle.coil.specs.Coils.{at, put}
+use Rattle.coil.specs.Meaning.{Coils}
 use Rattle.coil.specs.declared.CoilId.{CoilId}
 use Rattle.module.specs.declared.motor.Fault.{Fault}
 use Rattle.module.specs.declared.motor.Motor.{Motor}

@@ -3,8 +3,9 @@ use Rattle.std.specs.Prelude.{ℕ, Bool, List, None, Option, slice_index_or}
 use Rattle.std.proofs.Common.{lit≤}
 use Rattle.axis.specs.Kinds.{Kind, Seen}
 use Rattle.axis.specs.Levels.{Levels, chosen, is_powered, levels, no_levels}
-use Rattle.axis.specs.declared.points.Points.{Points}
-use Rattle.coil.specs.Meaning.{Coil, Coils, at}
+use Rattle.coil.specs.declared.points.Points.{Points}
+use Rattle.coil.specs.Coils.{at}
+use Rattle.coil.specs.Meaning.{Coil, Coils}
 use Rattle.coil.specs.declared.CoilId.{CoilId}
 use Rattle.coil.specs.declared.CoilId.TheVariants.{First, Second}
 use Rattle.module.specs.declared.inner.Inner.{Inner}

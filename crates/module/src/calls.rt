@@ -1,22 +1,30 @@
 // The calls of a module, over what it keeps at either stage.
-ghost use Rattle.std.specs.Prelude.{◌≡◌, length};
+ghost use Rattle.std.specs.Prelude.{◌≡◌, ◌≢◌, ◌↔◌, ◌++◌, length, MatchOption, IsSome};
 ghost use Rattle.module.specs.Called.{Called, Filled};
 ghost use Rattle.module.specs.Effects.{acknowledgement, cycle, report, setting};
 ghost use Rattle.module.specs.Share.{rules};
 ghost use Rattle.registers.specs.declared.Stage.TheVariants.{Running};
 
 use crate::inner::Inner;
-use crate::steps::coil_of;
 use axis::Axis;
-use coil::CoilDriver;
+use coil::{CoilDriver, CoilId};
 use refusal::Refusal;
 use registers::{Model, Setting, Stage};
+
+// The eight bytes of motor 1 and of motor 2, where there are sixteen bytes.
+fn halves(bytes: &[u8]) -> Option<(&[u8; 8], &[u8; 8])>
+    ensures cases { MatchOption result (length bytes.now ≢ 16) (λ both. bytes.now ≡ both.0.now ++ both.1.now) }
+    ensures variant { IsSome result ↔ (length bytes.now ≡ 16) }
+{
+    let (first, rest) = bytes.split_first_chunk()?;
+    Some((first, rest.as_array()?))
+}
 
 impl<A: Model, D: CoilDriver> Inner<A, D> {
     pub(crate) fn report(&mut self, motor: u8, flags: u8) -> Result<(), Refusal>
         ensures { Called (rules A.Axis.kind A.Model.lines) D.CoilDriver.meaning D.CoilDriver.did Running (report motor flags) self.old self.new result }
     {
-        let coil = coil_of(motor)?;
+        let coil = CoilId::try_from(motor)?;
         if flags >= 16 {
             return Err(Refusal::UnknownFlags);
         }
@@ -27,7 +35,7 @@ impl<A: Model, D: CoilDriver> Inner<A, D> {
     pub(crate) fn acknowledge(&mut self, motor: u8) -> Result<(), Refusal>
         ensures { Called (rules A.Axis.kind A.Model.lines) D.CoilDriver.meaning D.CoilDriver.did Running (acknowledgement motor) self.old self.new result }
     {
-        let coil = coil_of(motor)?;
+        let coil = CoilId::try_from(motor)?;
         self.driver.clear(coil);
         Ok(())
     }
@@ -36,13 +44,14 @@ impl<A: Model, D: CoilDriver> Inner<A, D> {
         ensures effect { Called (rules A.Axis.kind A.Model.lines) D.CoilDriver.meaning D.CoilDriver.did Running (cycle orders.now (length answer.old)) self.old self.new result }
         ensures answer { Filled (rules A.Axis.kind A.Model.lines) D.CoilDriver.meaning self.old orders.now answer.old answer.new result }
     {
-        if orders.len() != 16 {
-            return Err(Refusal::RecordLength);
-        }
-        if answer.len() != 16 {
+        let (first, second) = halves(orders).ok_or(Refusal::RecordLength)?;
+        let Some((first_answer, rest)) = answer.split_first_chunk_mut::<8>() else {
             return Err(Refusal::AnswerLength);
-        }
-        self.move_motors(orders, answer);
+        };
+        let Some(second_answer) = rest.as_mut_array::<8>() else {
+            return Err(Refusal::AnswerLength);
+        };
+        self.move_motors(first, second, first_answer, second_answer);
         self.share();
         Ok(())
     }

@@ -2,7 +2,7 @@
 #![tactic(auto)]
 
 ghost use Rattle.std.specs.Prelude.{◌≡◌, length};
-ghost use Rattle.coil.specs.Meaning.{at};
+ghost use Rattle.coil.specs.Coils.{at};
 ghost use Rattle.coil.specs.declared.CoilId.TheVariants.{First, Second};
 ghost use Rattle.module.specs.Called.{Called, Filled, Made};
 ghost use Rattle.module.specs.Effects.{acknowledgement, cycle, of_motor, report, setting};
@@ -22,26 +22,24 @@ mod steps;
 
 use inner::Inner;
 pub use motor::Fault;
-use steps::{coil_of, place};
+use std::marker::PhantomData;
+use steps::place;
 
 // The stage of a module is part of its type, so that a program that runs a cycle in preparation,
 // or starts a module twice, is not built.
-pub trait ModuleStage: Copy {
+pub trait ModuleStage {
     ghost stage: { Stage };
 
     fn stage() -> Stage
         ensures { result ≡ stage };
 }
 
-#[derive(Clone, Copy)]
-pub struct Preparation {}
+pub struct Preparation;
 
-#[derive(Clone, Copy)]
-pub struct Running {}
+pub struct Running;
 
 // The last of a module: it can be read, and gives its driver back.
-#[derive(Clone, Copy)]
-pub struct Closed {}
+pub struct Closed;
 
 impl ModuleStage for Preparation {
     ghost stage = { stages.Preparation };
@@ -61,8 +59,8 @@ impl ModuleStage for Running {
 
 // A module of two motors of one kind over a driver. It is neither copied nor let go: `start` takes a module in
 // preparation and gives a running one, and `end` gives the driver back.
-pub struct Module<S: Copy, A: Axis, D> {
-    stage: S,
+pub struct Module<S, A: Axis, D> {
+    stage: PhantomData<S>,
     inner: Inner<A, D>,
 }
 
@@ -81,7 +79,7 @@ impl<A: Model, D: CoilDriver> Module<Preparation, A, D> {
         ensures { Made A.Axis.kind D.CoilDriver.meaning D.CoilDriver.did driver result.inner }
     {
         Module {
-            stage: Preparation {},
+            stage: PhantomData,
             inner: Inner::new(driver),
         }
     }
@@ -90,7 +88,7 @@ impl<A: Model, D: CoilDriver> Module<Preparation, A, D> {
     pub fn start(self) -> Module<Running, A, D>
         ensures { result.inner ≡ self.inner }
     {
-        self.at_stage(Running {})
+        self.at_stage::<Running>()
     }
 }
 
@@ -98,49 +96,48 @@ impl<S: ModuleStage, A: Model, D: CoilDriver> Module<S, A, D> {
     // Sets a register: is it in the model's table, open at this stage, the value in range, its motor not powered?
     pub fn setting(&mut self, register: u16, value: i32) -> Result<(), Refusal>
         ensures effect { Called (rules A.Axis.kind A.Model.lines) D.CoilDriver.meaning D.CoilDriver.did S.ModuleStage.stage (setting register value) self.old.inner self.new.inner result }
-        ensures stage { self.new.stage ≡ self.old.stage }
     {
         self.inner.setting(S::stage(), register, value)
     }
 }
 
-impl<S: Copy, A: Model, D: CoilDriver> Module<S, A, D> {
-    fn at_stage<T: Copy>(self, stage: T) -> Module<T, A, D>
+impl<S, A: Model, D: CoilDriver> Module<S, A, D> {
+    fn at_stage<T>(self) -> Module<T, A, D>
         ensures { result.inner ≡ self.inner }
     {
-        let Module {
-            stage: _stage,
+        let Module { stage: _, inner } = self;
+        Module {
+            stage: PhantomData,
             inner,
-        } = self;
-        Module { stage, inner }
+        }
     }
 
     // The latest fault of a motor, if there was one.
     pub fn latest_fault(&self, motor: u8) -> Result<Option<Fault>, Refusal>
         ensures { result ≡ of_motor motor (share A.Axis.kind D.CoilDriver.meaning self.now.inner First).fault (share A.Axis.kind D.CoilDriver.meaning self.now.inner Second).fault }
     {
-        Ok(self.state(coil_of(motor)?).fault)
+        Ok(self.state(CoilId::try_from(motor)?).fault)
     }
 
     // The count of a motor's coil, in microsteps.
     pub fn count(&self, motor: u8) -> Result<u32, Refusal>
-        ensures { result ≡ of_motor motor (D.CoilDriver.meaning self.now.inner.driver).one.count (D.CoilDriver.meaning self.now.inner.driver).two.count }
+        ensures { result ≡ of_motor motor (D.CoilDriver.meaning self.now.inner.driver).first.count (D.CoilDriver.meaning self.now.inner.driver).second.count }
     {
-        Ok(self.inner.driver.count(coil_of(motor)?))
+        Ok(self.inner.driver.count(CoilId::try_from(motor)?))
     }
 
     // The points that a motor's coil is fed.
     pub fn points(&self, motor: u8) -> Result<u8, Refusal>
-        ensures { result ≡ of_motor motor (D.CoilDriver.meaning self.now.inner.driver).one.points (D.CoilDriver.meaning self.now.inner.driver).two.points }
+        ensures { result ≡ of_motor motor (D.CoilDriver.meaning self.now.inner.driver).first.points (D.CoilDriver.meaning self.now.inner.driver).second.points }
     {
-        Ok(self.inner.driver.points(coil_of(motor)?))
+        Ok(self.inner.driver.points(CoilId::try_from(motor)?).value)
     }
 
     // The flags of a motor's coil.
     pub fn flags(&self, motor: u8) -> Result<u8, Refusal>
-        ensures { result ≡ of_motor motor (D.CoilDriver.meaning self.now.inner.driver).one.flags (D.CoilDriver.meaning self.now.inner.driver).two.flags }
+        ensures { result ≡ of_motor motor (D.CoilDriver.meaning self.now.inner.driver).first.flags (D.CoilDriver.meaning self.now.inner.driver).second.flags }
     {
-        Ok(self.inner.driver.flags(coil_of(motor)?))
+        Ok(self.inner.driver.flags(CoilId::try_from(motor)?))
     }
 
     // What the motor on a coil shows.
@@ -151,7 +148,7 @@ impl<S: Copy, A: Model, D: CoilDriver> Module<S, A, D> {
         let motor = &self.inner.motors[place(coil)];
         MotorState {
             fault: motor.fault,
-            wanted: motor.wanted(),
+            wanted: motor.wanted().value,
         }
     }
 
@@ -159,17 +156,14 @@ impl<S: Copy, A: Model, D: CoilDriver> Module<S, A, D> {
     pub fn close(self) -> Module<Closed, A, D>
         ensures { result.inner ≡ self.inner }
     {
-        self.at_stage(Closed {})
+        self.at_stage::<Closed>()
     }
 
     // Ends the module and gives its driver back as it stands.
     pub fn end(self) -> D
         ensures { result ≡ self.inner.driver }
     {
-        let Module {
-            stage: _stage,
-            inner,
-        } = self;
+        let Module { stage: _, inner } = self;
         inner.end()
     }
 }
@@ -179,7 +173,6 @@ impl<A: Model, D: CoilDriver> Module<Running, A, D> {
     pub fn cycle(&mut self, orders: &[u8], answer: &mut [u8]) -> Result<(), Refusal>
         ensures effect { Called (rules A.Axis.kind A.Model.lines) D.CoilDriver.meaning D.CoilDriver.did stages.Running (cycle orders.now (length answer.old)) self.old.inner self.new.inner result }
         ensures answer { Filled (rules A.Axis.kind A.Model.lines) D.CoilDriver.meaning self.old.inner orders.now answer.old answer.new result }
-        ensures stage { self.new.stage ≡ self.old.stage }
     {
         self.inner.cycle(orders, answer)
     }
@@ -187,7 +180,6 @@ impl<A: Model, D: CoilDriver> Module<Running, A, D> {
     // Reports flags of a motor's coil: a motor that there is, and flags below 16?
     pub fn report(&mut self, motor: u8, flags: u8) -> Result<(), Refusal>
         ensures effect { Called (rules A.Axis.kind A.Model.lines) D.CoilDriver.meaning D.CoilDriver.did stages.Running (report motor flags) self.old.inner self.new.inner result }
-        ensures stage { self.new.stage ≡ self.old.stage }
     {
         self.inner.report(motor, flags)
     }
@@ -195,7 +187,6 @@ impl<A: Model, D: CoilDriver> Module<Running, A, D> {
     // Acknowledges a motor's faults: clears all flags of its coil but overtemperature.
     pub fn acknowledge(&mut self, motor: u8) -> Result<(), Refusal>
         ensures effect { Called (rules A.Axis.kind A.Model.lines) D.CoilDriver.meaning D.CoilDriver.did stages.Running (acknowledgement motor) self.old.inner self.new.inner result }
-        ensures stage { self.new.stage ≡ self.old.stage }
     {
         self.inner.acknowledge(motor)
     }

@@ -1,8 +1,8 @@
 // One motor of a module, whatever its kind of axis.
-ghost use Rattle.std.specs.Prelude.{◌≡◌, ◌≤◌, length, None};
+ghost use Rattle.std.specs.Prelude.{◌≡◌, None};
 ghost use Rattle.axis.specs.Kinds.{seen};
 ghost use Rattle.axis.specs.Levels.{chosen, is_powered, levels, no_levels, with_level};
-ghost use Rattle.coil.specs.Meaning.{at};
+ghost use Rattle.coil.specs.Coils.{at};
 ghost use Rattle.module.specs.Motors.{Turned};
 
 use axis::{Axis, AxisFault, CurrentSetting, Currents, Points};
@@ -44,9 +44,8 @@ impl<A: Axis> Motor<A> {
     }
 
     // The points that the motor wants: those of the current that its axis chooses.
-    pub(crate) fn wanted(&self) -> u8
-        ensures value { result ≡ chosen (A.Axis.kind.current self.now.axis) (levels self.now.currents) }
-        ensures within { result ≤ 167 }
+    pub(crate) fn wanted(&self) -> Points
+        ensures { result.value ≡ chosen (A.Axis.kind.current self.now.axis) (levels self.now.currents) }
     {
         self.currents.chosen(self.axis.current())
     }
@@ -66,10 +65,9 @@ impl<A: Axis> Motor<A> {
         driver: &mut D,
         coil: CoilId,
         cycle: u32,
-        orders: &[u8],
-        answer: &mut [u8],
+        orders: &[u8; 8],
+        answer: &mut [u8; 8],
     )
-        requires { (length orders.now ≡ 8) × (length answer.old ≡ 8) }
         ensures { Turned D.CoilDriver.meaning D.CoilDriver.did coil cycle (A.Axis.kind.cycle config self.old.axis (seen (at (D.CoilDriver.meaning driver.old) coil)) orders.now) self.old self.new driver.old driver.new answer.new }
     {
         if let Err(cause) = self.axis.cycle(config, driver, coil, orders, answer) {

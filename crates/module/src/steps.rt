@@ -1,9 +1,8 @@
 // The steps that a module's calls are made of.
-ghost use Rattle.std.specs.Prelude.{◌≡◌, ◌<◌, length, Ok};
+ghost use Rattle.std.specs.Prelude.{◌≡◌, ◌<◌, ◌++◌, Ok};
 ghost use Rattle.coil.specs.declared.CoilId.{CoilId};
-ghost use Rattle.coil.specs.declared.CoilId.TheVariants.{First, Second};
 ghost use Rattle.module.specs.Called.{Adjusted, Made, Moved, Rested, Shared, Turn};
-ghost use Rattle.module.specs.Effects.{in_range, of_motor, with_config};
+ghost use Rattle.module.specs.Effects.{in_range, with_config};
 ghost use Rattle.module.specs.Share.{place as place_of};
 ghost use Rattle.std.specs.Option.{unwrap_or};
 
@@ -20,10 +19,7 @@ pub(crate) fn place(coil: CoilId) -> usize
     ensures value { result ≡ place_of coil }
     ensures within { result < 2 }
 {
-    match coil {
-        CoilId::First => 0,
-        CoilId::Second => 1,
-    }
+    coil as usize - 1
 }
 
 impl<A: Axis, D: CoilDriver> Inner<A, D> {
@@ -32,8 +28,8 @@ impl<A: Axis, D: CoilDriver> Inner<A, D> {
         ensures { Made A.Axis.kind D.CoilDriver.meaning D.CoilDriver.did driver result }
     {
         let mut driver = driver;
-        let _ = driver.feed(CoilId::First, 0);
-        let _ = driver.feed(CoilId::Second, 0);
+        let _ = driver.feed(CoilId::First, Points::NONE);
+        let _ = driver.feed(CoilId::Second, Points::NONE);
         Inner {
             configuration: Configuration {
                 model: A::first_config(),
@@ -60,8 +56,7 @@ impl<A: Axis, D: CoilDriver> Inner<A, D> {
     }
 
     // One motor's part of a cycle.
-    fn turn(&mut self, coil: CoilId, orders: &[u8], answer: &mut [u8])
-        requires { (length orders.now ≡ 8) × (length answer.old ≡ 8) }
+    fn turn(&mut self, coil: CoilId, orders: &[u8; 8], answer: &mut [u8; 8])
         ensures { Turn A.Axis.kind D.CoilDriver.meaning D.CoilDriver.did coil self.old self.new orders.now answer.new }
     {
         let config = self.configuration.model;
@@ -70,14 +65,18 @@ impl<A: Axis, D: CoilDriver> Inner<A, D> {
     }
 
     // Both motors move, motor 1 first, and the cycle gets its number.
-    pub(crate) fn move_motors(&mut self, orders: &[u8], answer: &mut [u8])
-        requires { (length orders.now ≡ 16) × (length answer.old ≡ 16) }
-        ensures { Moved A.Axis.kind D.CoilDriver.meaning D.CoilDriver.did self.old self.new orders.now answer.new }
+    pub(crate) fn move_motors(
+        &mut self,
+        first: &[u8; 8],
+        second: &[u8; 8],
+        first_answer: &mut [u8; 8],
+        second_answer: &mut [u8; 8],
+    )
+        ensures { Moved A.Axis.kind D.CoilDriver.meaning D.CoilDriver.did self.old self.new (first.now ++ second.now) (first_answer.new ++ second_answer.new) }
     {
         self.cycles = self.cycles.wrapping_add(1);
-        let (first, second) = orders.split_at(8);
-        self.turn(CoilId::First, first, &mut answer[0..8]);
-        self.turn(CoilId::Second, second, &mut answer[8..]);
+        self.turn(CoilId::First, first, first_answer);
+        self.turn(CoilId::Second, second, second_answer);
     }
 
     // Feeds both coils what the supply grants of what their motors want. Neither feed is declined.
@@ -87,9 +86,9 @@ impl<A: Axis, D: CoilDriver> Inner<A, D> {
     {
         let first = self.motors[0].wanted();
         let second = self.motors[1].wanted();
-        let (first, second) = self.supply.share(first, second);
-        let _ = self.driver.feed(CoilId::First, first);
-        let _ = self.driver.feed(CoilId::Second, second);
+        let (first, second) = self.supply.share(first.value, second.value);
+        let _ = self.driver.feed(CoilId::First, Points { value: first });
+        let _ = self.driver.feed(CoilId::Second, Points { value: second });
     }
 }
 
@@ -100,7 +99,7 @@ impl<A: Model, D: CoilDriver> Inner<A, D> {
         ensures number { result ≡ in_range (A.Axis.kind.config value) (Ok tt) }
         ensures after { self.new ≡ with_config self.old (unwrap_or (A.Axis.kind.config value) self.old.configuration.model) }
     {
-        self.configuration.model = A::config(value).ok_or(Refusal::OutOfRange)?;
+        self.configuration.model = A::config(value)?;
         Ok(())
     }
 
@@ -113,23 +112,12 @@ impl<A: Model, D: CoilDriver> Inner<A, D> {
     ) -> Result<(), Refusal>
         ensures { Adjusted A.Axis.kind D.CoilDriver.meaning coil which value self.old self.new result }
     {
-        let points = Points::from_setting(value).ok_or(Refusal::OutOfRange)?;
+        let points = Points::try_from(value)?;
         let at = place(coil);
         if self.motors[at].is_powered() {
             return Err(Refusal::MotorPowered);
         }
         self.motors[at].set(which, points);
         Ok(())
-    }
-}
-
-// The coil of a motor, by the motor's number.
-pub(crate) fn coil_of(motor: u8) -> Result<CoilId, Refusal>
-    ensures { result ≡ of_motor motor First Second }
-{
-    match motor {
-        1 => Ok(CoilId::First),
-        2 => Ok(CoilId::Second),
-        _ => Err(Refusal::UnknownMotor),
     }
 }

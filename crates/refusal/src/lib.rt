@@ -3,6 +3,9 @@
 
 ghost use Rattle.std.specs.Prelude.{◌≡◌};
 ghost use Rattle.refusal.specs.Numbers.{answer_number, number};
+ghost use Rattle.refusal.specs.declared.Refusal.TheVariants as refusals;
+
+use coil::{OutOfRange, UnknownCoil};
 
 #[derive(Clone, Copy, PartialEq, Eq, Debug)]
 pub enum Refusal {
@@ -49,5 +52,21 @@ pub fn answer_number(answer: Result<(), Refusal>) -> u8
     match answer {
         Ok(()) => 0,
         Err(refusal) => refusal.number(),
+    }
+}
+
+impl From<UnknownCoil> for Refusal {
+    ghost from_gives = { λ _ refusal. refusal ≡ refusals.UnknownMotor };
+
+    fn from(_error: UnknownCoil) -> Refusal {
+        Refusal::UnknownMotor
+    }
+}
+
+impl From<OutOfRange> for Refusal {
+    ghost from_gives = { λ _ refusal. refusal ≡ refusals.OutOfRange };
+
+    fn from(_error: OutOfRange) -> Refusal {
+        Refusal::OutOfRange
     }
 }

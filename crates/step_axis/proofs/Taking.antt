@@ -9,7 +9,7 @@ use Rattle.axis.specs.declared.AxisFault.TheVariants as fault
 use Rattle.coil.proofs.Chained.{chain_join}
 use Rattle.coil.proofs.Wraps.{modulo_onto}
 use Rattle.coil.specs.Chains.{Chain, Did, Tried, on}
-use Rattle.coil.specs.Coils.{at, put, put_same}
+use Rattle.coil.specs.Coils.{at, at_put, put, put_put, put_same}
 use Rattle.coil.specs.Meaning.{Coil, Coils, advanced, answered, tripped, with_count}
 use Rattle.coil.specs.Modulo.{modulo}
 use Rattle.coil.specs.declared.CoilCall.{CoilCall}
@@ -125,14 +125,6 @@ none_tripped f (w ∷ ws) t = ap (λ b. cond b (steps w) (pos 0) +ℤ steps_take
 pub no_calls_tripped : (f s : ℕ) (ws : List ℕ) → tripped f ≡ true → advances f s ws ≡ []
 no_calls_tripped f s [] t = refl
 no_calls_tripped f s (w ∷ ws) t = ap (λ b. cond b (Advance (steps w *ℤ pos s) ∷ advances f s ws) (advances f s ws)) (not_taken_tripped f w t) ∙ no_calls_tripped f s ws t
-
-at_put : (c : Coils) (i : CoilId) (x : Coil) → at (put c i x) i ≡ x
-at_put c First x = refl
-at_put c Second x = refl
-
-put_put : (c : Coils) (i : CoilId) (x y : Coil) → put (put c i x) i y ≡ put c i y
-put_put c First x y = refl
-put_put c Second x y = refl
 
 once_more : (z : ℤ) (s : ℕ) → z *ℤ pos (suc s) ≡ z *ℤ pos s +ℤ z
 once_more z s = omega (arith, ints)

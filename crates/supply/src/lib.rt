@@ -9,13 +9,13 @@ ghost use Rattle.supply.specs.Shares.{granted};
 const SUPPLY_POINTS: u16 = 267;
 
 #[derive(Clone, Copy)]
-pub struct Supply {}
+pub struct Supply;
 
 impl Supply {
     pub fn new() -> Supply
         ensures { result ≡ record {} }
     {
-        Supply {}
+        Supply
     }
 
     // What each motor is fed of what both want: motor 1 all, motor 2 at most what is left.

@@ -1,5 +1,5 @@
 use Rattle.std.proofs.Common.{◌≡◌, ◌<◌, true, false, length, Some, None, rules}
-use Rattle.axis.specs.Levels.{points_from}
+use Rattle.coil.specs.Numbers.{points_from}
 use Rattle.module.proofs.Setting.{out_of_range, set_current, still_powered}
 use Rattle.module.proofs.Table.{powered_there}
 use Rattle.module.specs.Share.{powered, share}
