@@ -4,8 +4,8 @@ use Rattle.std.proofs.lemmas.Int.{ints}
 use Rattle.std.proofs.lemmas.Bool.Decides.{nat_tests}
 use Rattle.profile.specs.Course.{Driven, Follows, Move, Travel, course, left, onward, travel, travelled}
 use Rattle.profile.specs.Ramp.{along, forbids_motion, heading, next_size, signed, toward}
-use Rattle.profile.specs.declared.Direction.{Direction}
-use Rattle.profile.specs.declared.Direction.TheVariants.{Forward, Backward}
+use Rattle.coil.specs.declared.direction.Direction.{Direction}
+use Rattle.coil.specs.declared.direction.Direction.TheVariants.{Forward, Backward}
 use Rattle.profile.specs.declared.Limits.{Limits}
 use Rattle.profile.specs.declared.Speed.{Speed}
 use Rattle.profile.proofs.Courses.{near, sound}

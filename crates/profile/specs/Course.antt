@@ -1,7 +1,7 @@
 -- The course of a move that nothing disturbs, from standstill to a target. Assumes nothing.
 use Rattle.std.specs.Prelude.{◌≡◌, ℕ, zero, suc, ◌+◌, ◌-◌, ◌≤◌, ℤ, pos, ◌+ℤ◌, ◌-ℤ◌}
 use Rattle.profile.specs.Ramp.{along, next_size, signed, toward}
-use Rattle.profile.specs.declared.Direction.{Direction}
+use Rattle.coil.specs.declared.direction.Direction.{Direction}
 use Rattle.profile.specs.declared.Limits.{Limits}
 use Rattle.profile.specs.declared.Speed.{Speed}
 

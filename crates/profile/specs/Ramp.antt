@@ -1,7 +1,7 @@
 -- The rule for the next speed of a motor that ramps. Assumes nothing.
 use Rattle.std.specs.Prelude.{ℕ, zero, suc, ◌+◌, ◌-◌, min, max, Bool, cond, ◌||◌, ℤ, pos, neg_ℤ, ◌==◌, int_le, int_lt}
-use Rattle.profile.specs.declared.Direction.{Direction}
-use Rattle.profile.specs.declared.Direction.TheVariants.{Forward, Backward}
+use Rattle.coil.specs.declared.direction.Direction.{Direction}
+use Rattle.coil.specs.declared.direction.Direction.TheVariants.{Forward, Backward}
 use Rattle.profile.specs.declared.Limits.{Limits}
 use Rattle.profile.specs.declared.Speed.{Speed}
 

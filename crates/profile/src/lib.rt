@@ -7,15 +7,11 @@ ghost use Rattle.profile.specs.Laws.{RuleStands};
 ghost use Rattle.profile.specs.Ramp.{along, braked, fastest, forbids_motion, heading, next_size, signed, slowest, toward};
 
 use crate::stopping::greatest;
+use coil::Microsteps;
 
 mod stopping;
 
-// Forward counts positions up.
-#[derive(Clone, Copy, PartialEq, Eq, Debug)]
-pub enum Direction {
-    Forward,
-    Backward,
-}
+pub use coil::Direction;
 
 #[derive(Clone, Copy, PartialEq, Eq, Debug)]
 pub struct Speed {
@@ -36,19 +32,6 @@ pub struct Limits {
     pub deceleration: u16,
 }
 
-impl Direction {
-    // A distance in microsteps, counted this way.
-    fn along(self, distance: i64) -> i64
-        requires { neg_ℤ (pos (2 ^ 32)) ≤ℤ distance }
-        ensures { result ≡ along self distance }
-    {
-        match self {
-            Direction::Forward => distance,
-            Direction::Backward => -distance,
-        }
-    }
-}
-
 impl Speed {
     pub fn zero() -> Speed
         ensures { result ≡ record { size = 0; direction = Direction.Forward } }
@@ -60,16 +43,15 @@ impl Speed {
     }
 
     // The microsteps of one cycle, negative where they go backward.
-    pub fn steps(self) -> i32
-        ensures value { result ≡ signed self }
-        ensures least { neg_ℤ (pos 65535) ≤ℤ result }
-        ensures most { result ≤ℤ pos 65535 }
+    pub fn steps(self) -> Microsteps
+        ensures { result.value ≡ signed self }
     {
         let size = i32::from(self.size);
-        match self.direction {
+        let value = match self.direction {
             Direction::Forward => size,
             Direction::Backward => -size,
-        }
+        };
+        Microsteps { value }
     }
 
     // The way that a move goes: on as it goes, and from standstill toward the target.
@@ -127,7 +109,7 @@ impl Limits {
     {
         let distance = distance(position, target);
         let heading = speed.heading(distance);
-        let size = self.next_size(speed.size, heading.along(distance));
+        let size = self.next_size(speed.size, along(heading, distance));
         let direction = if self.forbids_motion() {
             speed.direction
         } else {
@@ -153,6 +135,17 @@ impl Limits {
             self.deceleration,
             distance as u64,
         )
+    }
+}
+
+// A distance in microsteps, counted this way.
+fn along(way: Direction, distance: i64) -> i64
+    requires { neg_ℤ (pos (2 ^ 32)) ≤ℤ distance }
+    ensures { result ≡ along way distance }
+{
+    match way {
+        Direction::Forward => distance,
+        Direction::Backward => -distance,
     }
 }
 
@@ -186,16 +179,16 @@ mod tests {
         }
     }
 
-    fn along(direction: Direction, size: u16) -> Speed {
+    fn speed(direction: Direction, size: u16) -> Speed {
         Speed { size, direction }
     }
 
     fn forward(size: u16) -> Speed {
-        along(Direction::Forward, size)
+        speed(Direction::Forward, size)
     }
 
     fn backward(size: u16) -> Speed {
-        along(Direction::Backward, size)
+        speed(Direction::Backward, size)
     }
 
     #[test]
@@ -205,7 +198,7 @@ mod tests {
         }
         assert_eq!(rt; tens().toward(Speed::zero(), 0, -12), backward(2));
         assert_eq!(rt; tens().toward(backward(4), -10, -12), backward(2));
-        assert_eq!(rt; backward(4).steps(), -4);
+        assert_eq!(rt; backward(4).steps().value, -4);
     }
 
     #[test]
