@@ -11,6 +11,7 @@ use Rattle.module.specs.Effects.{Deed, starts}
 use Rattle.module.specs.Share.{born, rules, wanted}
 use Rattle.module.specs.declared.motor.Fault.{Fault}
 use Rattle.registers.specs.Tables.{Line, step_lines}
+use Rattle.std.specs.Option.{unwrap_or}
 use Rattle.step_axis.specs.Taken.{step_kind}
 use Rattle.step_axis.specs.Words.{first_config}
 
@@ -32,8 +33,7 @@ abbrev pub lines_of : FunctionModel → List Line
 lines_of StepWords = step_lines
 
 abbrev pub called : Option (List Query) → List Query
-called None = []
-called (Some qs) = qs
+called qs = unwrap_or qs []
 
 abbrev pub started : List Line → CoilId → Option (List Query) → List Deed
 started lines i None = []
