@@ -5,10 +5,9 @@ use Rattle.coil.specs.Coils.{at}
 use Rattle.coil.specs.Meaning.{Coils}
 use Rattle.coil.specs.declared.CoilId.{CoilId}
 use Rattle.coil.specs.declared.CoilId.TheVariants.{First, Second}
-use Rattle.history.specs.Lists.{Event, asked, buffer, half_told}
+use Rattle.history.specs.Lists.{half_told}
 use Rattle.history.specs.Ran.{Once}
 use Rattle.history.specs.Stands.{Query, Stand, given, share_after, stand, stand_after}
-use Rattle.history.specs.declared.Call.{Call}
 use Rattle.module.specs.Called.{Called, Filled}
 use Rattle.module.specs.Effects.{Answer, Asked, answer, cycle, deed, half, length_answer, outcome, points_after, setting}
 use Rattle.module.specs.Share.{Rules, Share, share, wanted}
@@ -36,23 +35,10 @@ called_stand {C} {A} {D} k meaning did stage a x y r c =
     ∙ ap (λ h. points_after i (at (meaning x.driver) i) (wanted k.kind (share_after k First s.one q)) (wanted k.kind h) (deed k.lines stage i a)) (c.motors Second) in
     same_stand (stand k.kind meaning y) (stand_after k s q) (c.motors First) (points First) (c.motors Second) (points Second)
 
--- a call that is no cycle
-pub once_plain : {C A D : Type 0} (k : Rules C A) (meaning : D → Coils) (did : Did D) (stage : Stage) (a : Asked) (x y : Inner A D C) (r : Answer) → ((i : CoilId) (h : Share C A) → given k.kind i h a ≡ None) → Called k meaning did stage a x y r →
-    Once k meaning did x y (record { stage = stage; asked = a }) [] (record { query = record { stage = stage; asked = a }; told = record { number = r; one = None; two = None }; buffer = [] })
-once_plain {C} {A} {D} k meaning did stage a x y r none c = record {
-  asked = refl;
-  buffer = λ _. refl;
-  after = called_stand k meaning did stage a x y r c;
-  answer = ap (λ n. record { number = n; one = None; two = None }) c.number
-      ∙ ap (λ o. record { number = answer k stage (share k.kind meaning x First) (share k.kind meaning x Second) a; one = o; two = None }) (sym (none First (share k.kind meaning x First)))
-      ∙ ap (λ o. record { number = answer k stage (share k.kind meaning x First) (share k.kind meaning x Second) a; one = given k.kind First (share k.kind meaning x First) a; two = o }) (sym (none Second (share k.kind meaning x Second)));
-  driver = c.driver;
-}
-
 -- a cycle: each half of the answer, where it is accepted
-halves_told : {C A D : Type 0} (k : Rules C A) (meaning : D → Coils) (x : Inner A D C) (orders before bytes : List ℕ) (room : ℕ) (r : Answer) (i : CoilId) → r ≡ length_answer (length orders) room → Filled k meaning x orders before bytes r →
+halves_told : {C A D : Type 0} {k : Rules C A} {meaning : D → Coils} {x : Inner A D C} {orders before bytes : List ℕ} (room : ℕ) (r : Answer) (i : CoilId) → r ≡ length_answer (length orders) room → Filled k meaning x orders before bytes r →
     half_told i bytes r ≡ given k.kind i (share k.kind meaning x i) (cycle orders room)
-halves_told k meaning x orders before bytes room r i e f = by (eqb (length orders) 16) (eqb room 16) r e (f.halves i)
+halves_told {C} {A} {D} {k} {meaning} {x} {orders} {before} {bytes} room r i e f = by (eqb (length orders) 16) (eqb room 16) r e (f.halves i)
   where
     by : (a b : Bool) (r : Answer) → r ≡ cond a (cond b (Ok tt) (Err AnswerLength)) (Err RecordLength) → (is_ok r ≡ true → half i bytes ≡ (outcome k.kind (share k.kind meaning x i) (half i orders)).answer) →
         half_told i bytes r ≡ cond a (cond b (Some (outcome k.kind (share k.kind meaning x i) (half i orders)).answer) None) None
@@ -60,42 +46,42 @@ halves_told k meaning x orders before bytes room r i e f = by (eqb (length order
     by true false r e h = ap (half_told i bytes) e
     by false b r e h = ap (half_told i bytes) e
 
-pub once_cycle : {C A D : Type 0} (k : Rules C A) (meaning : D → Coils) (did : Did D) (orders before bytes : List ℕ) (room : ℕ) (x y : Inner A D C) (r : Answer) → Called k meaning did Running (cycle orders room) x y r → Filled k meaning x orders before bytes r →
-    Once k meaning did x y (record { stage = Running; asked = cycle orders room }) before (record { query = record { stage = Running; asked = cycle orders room }; told = record { number = r; one = half_told First bytes r; two = half_told Second bytes r }; buffer = bytes })
-once_cycle {C} {A} {D} k meaning did orders before bytes room x y r c f =
-    let num : Answer = length_answer (length orders) room in
-    record {
-      asked = refl;
-      buffer = f.untouched;
-      after = called_stand k meaning did Running (cycle orders room) x y r c;
-      answer = ap (λ n. record { number = n; one = half_told First bytes r; two = half_told Second bytes r }) c.number
-          ∙ ap (λ o. record { number = num; one = o; two = half_told Second bytes r }) (halves_told k meaning x orders before bytes room r First c.number f)
-          ∙ ap (λ o. record { number = num; one = given k.kind First (share k.kind meaning x First) (cycle orders room); two = o }) (halves_told k meaning x orders before bytes room r Second c.number f);
-      driver = c.driver;
-    }
+module _ {C A D : Type 0} {k : Rules C A} {meaning : D → Coils} {did : Did D} {x y : Inner A D C} {r : Answer} where
+  -- a call that is no cycle
+  pub once_plain : {stage : Stage} {a : Asked} → ((i : CoilId) (h : Share C A) → given k.kind i h a ≡ None) → Called k meaning did stage a x y r →
+      Once k meaning did x y (record { stage = stage; asked = a }) [] (record { query = record { stage = stage; asked = a }; told = record { number = r; one = None; two = None }; buffer = [] })
+  once_plain {stage} {a} none c = record {
+    asked = refl;
+    buffer = λ _. refl;
+    after = called_stand k meaning did stage a x y r c;
+    answer = ap (λ n. record { number = n; one = None; two = None }) c.number
+        ∙ ap (λ o. record { number = answer k stage (share k.kind meaning x First) (share k.kind meaning x Second) a; one = o; two = None }) (sym (none First (share k.kind meaning x First)))
+        ∙ ap (λ o. record { number = answer k stage (share k.kind meaning x First) (share k.kind meaning x Second) a; one = given k.kind First (share k.kind meaning x First) a; two = o }) (sym (none Second (share k.kind meaning x Second)));
+    driver = c.driver;
+  }
 
--- the call that was matched
-pub matched : {C A D : Type 0} (k : Rules C A) (meaning : D → Coils) (did : Did D) (x y : Inner A D C) (z w : Call) (v : Event) → z ≡ w →
-    Once k meaning did x y (record { stage = Running; asked = asked w }) (buffer w) v → Once k meaning did x y (record { stage = Running; asked = asked z }) (buffer z) v
-matched k meaning did x y z w v e o =
-    let P : Call → Type 0 = λ u. Once k meaning did x y (record { stage = Running; asked = asked u }) (buffer u) v in
-    subst P (sym e) o
+  -- a setting whose value came through its bits
+  pub once_setting : {stage : Stage} {n : ℕ} {v z : ℤ} → z ≡ v → Called k meaning did stage (setting n z) x y r →
+      Once k meaning did x y (record { stage = stage; asked = setting n v }) [] (record { query = record { stage = stage; asked = setting n v }; told = record { number = r; one = None; two = None }; buffer = [] })
+  once_setting {stage} {n} e c = once_plain (λ i h. refl) (subst (λ u. Called k meaning did stage (setting n u) x y r) e c)
 
--- a cycle through the buffers of its entry
-pub once_buffers : {C A D : Type 0} (k : Rules C A) (meaning : D → Coils) (did : Did D) (o orders b before bytes final : List ℕ) (room : ℕ) (x y : Inner A D C) (r : Answer) → o ≡ orders → b ≡ before → length before ≡ room → bytes ≡ final →
-    Called k meaning did Running (cycle o (length b)) x y r → Filled k meaning x o b bytes r →
-    Once k meaning did x y (record { stage = Running; asked = cycle orders room }) before (record { query = record { stage = Running; asked = cycle orders room }; told = record { number = r; one = half_told First final r; two = half_told Second final r }; buffer = final })
-once_buffers {C} {A} {D} k meaning did o orders b before bytes final room x y r oe be le fe c f =
-    let P : List ℕ → Type 0 = λ z. Called k meaning did Running (cycle z (length b)) x y r in
-    let Q : ℕ → Type 0 = λ n. Called k meaning did Running (cycle orders n) x y r in
-    let R : List ℕ → Type 0 = λ z. Filled k meaning x z b bytes r in
-    let S : List ℕ → Type 0 = λ z. Filled k meaning x orders z bytes r in
-    let T : List ℕ → Type 0 = λ z. Filled k meaning x orders before z r in
-    once_cycle k meaning did orders before final room x y r (subst Q (ap length be ∙ le) (subst P oe c)) (subst T fe (subst S be (subst R oe f)))
+  once_filled : {orders before bytes : List ℕ} {room : ℕ} → Called k meaning did Running (cycle orders room) x y r → Filled k meaning x orders before bytes r →
+      Once k meaning did x y (record { stage = Running; asked = cycle orders room }) before (record { query = record { stage = Running; asked = cycle orders room }; told = record { number = r; one = half_told First bytes r; two = half_told Second bytes r }; buffer = bytes })
+  once_filled {orders} {before} {bytes} {room} c f =
+      let num : Answer = length_answer (length orders) room in
+      record {
+        asked = refl;
+        buffer = f.untouched;
+        after = called_stand k meaning did Running (cycle orders room) x y r c;
+        answer = ap (λ n. record { number = n; one = half_told First bytes r; two = half_told Second bytes r }) c.number
+            ∙ ap (λ o. record { number = num; one = o; two = half_told Second bytes r }) (halves_told room r First c.number f)
+            ∙ ap (λ o. record { number = num; one = given k.kind First (share k.kind meaning x First) (cycle orders room); two = o }) (halves_told room r Second c.number f);
+        driver = c.driver;
+      }
 
--- a setting whose value came through its bits
-pub once_setting : {C A D : Type 0} (k : Rules C A) (meaning : D → Coils) (did : Did D) (stage : Stage) (n : ℕ) (v z : ℤ) (x y : Inner A D C) (r : Answer) → z ≡ v → Called k meaning did stage (setting n z) x y r →
-    Once k meaning did x y (record { stage = stage; asked = setting n v }) [] (record { query = record { stage = stage; asked = setting n v }; told = record { number = r; one = None; two = None }; buffer = [] })
-once_setting k meaning did stage n v z x y r e c =
-    let P : ℤ → Type 0 = λ u. Called k meaning did stage (setting n u) x y r in
-    once_plain k meaning did stage (setting n v) x y r (λ i h. refl) (subst P e c)
+  -- a cycle through the buffers of its entry
+  pub once_cycle : {o orders b before bytes final : List ℕ} {room : ℕ} → o ≡ orders → b ≡ before → length before ≡ room → bytes ≡ final → Called k meaning did Running (cycle o (length b)) x y r → Filled k meaning x o b bytes r →
+      Once k meaning did x y (record { stage = Running; asked = cycle orders room }) before (record { query = record { stage = Running; asked = cycle orders room }; told = record { number = r; one = half_told First final r; two = half_told Second final r }; buffer = final })
+  once_cycle {o} {orders} {b} {before} {bytes} oe be le fe c f =
+      once_filled (subst (λ n. Called k meaning did Running (cycle orders n) x y r) (ap length be ∙ le) (subst (λ z. Called k meaning did Running (cycle z (length b)) x y r) oe c))
+      (subst (λ z. Filled k meaning x orders before z r) fe (subst (λ z. Filled k meaning x orders z bytes r) be (subst (λ z. Filled k meaning x z b bytes r) oe f)))

@@ -1,5 +1,5 @@
 -- A history as lists: what was asked, and what was told. Assumes nothing.
-use Rattle.std.specs.Prelude.{◌≡◌, ℕ, true, List, [], ◌∷◌, ◌++◌, map, is_err, Some, None, Ok, Err, vec_items, vec_len, Option}
+use Rattle.std.specs.Prelude.{◌≡◌, ℕ, true, List, [], ◌++◌, map, is_err, Some, None, Ok, Err, vec_items, vec_len, Option}
 use Rattle.coil.specs.declared.CoilId.{CoilId}
 use Rattle.coil.specs.declared.CoilId.TheVariants.{First, Second}
 use Rattle.history.specs.Stands.{Query, Told}
@@ -9,8 +9,10 @@ use Rattle.history.specs.declared.Entry.{Entry}
 use Rattle.history.specs.declared.History.{History}
 use Rattle.history.specs.declared.SetRegister.{SetRegister}
 use Rattle.module.specs.Effects.{Answer, Asked, acknowledgement, cycle, half, report, setting}
+use Rattle.registers.specs.declared.Stage.{Stage}
 use Rattle.registers.specs.declared.Stage.TheVariants.{Preparation, Running}
-use Rattle.std.specs.Option.{option_map}
+use Rattle.std.specs.List.{AllZip}
+use Rattle.std.specs.Option.{option_map, unwrap_or}
 
 abbrev pub asked : Call → Asked
 asked (calls.Setting s) = setting s.register s.value
@@ -42,19 +44,36 @@ pub record Event : Type 0 where
   pub told : Told
   pub buffer : List ℕ
 
-abbrev pub prepared : Entry SetRegister → Event
-prepared e = record {
-  query = record { stage = Preparation; asked = setting e.call.register e.call.value };
-  told = record { number = e.ended; one = None; two = None };
-  buffer = [];
+-- a kind of calls: at which stage they are made, what each asks, its answer buffer, and what the motor i gets of it
+pub record CallKind (C : Type 0) : Type 0 where
+  pub stage : Stage
+  pub asked : C → Asked
+  pub buffer : C → List ℕ
+  pub got : CoilId → C → Answer → Option (List ℕ)
+
+abbrev pub query : {C : Type 0} → CallKind C → C → Query
+query k c = record { stage = k.stage; asked = k.asked c }
+
+abbrev pub event : {C : Type 0} → CallKind C → Entry C → Event
+event k e = record {
+  query = query k e.call;
+  told = record { number = e.ended; one = k.got First e.call e.ended; two = k.got Second e.call e.ended };
+  buffer = k.buffer e.call;
 }
 
+-- settings of registers at a stage
+abbrev pub settings : Stage → CallKind SetRegister
+settings stage = record { stage = stage; asked = λ s. setting s.register s.value; buffer = λ s. []; got = λ i s r. None }
+
+-- calls of a running module
+abbrev pub running_calls : CallKind Call
+running_calls = record { stage = Running; asked = asked; buffer = buffer; got = got }
+
+abbrev pub prepared : Entry SetRegister → Event
+prepared e = event (settings Preparation) e
+
 abbrev pub operated : Entry Call → Event
-operated e = record {
-  query = record { stage = Running; asked = asked e.call };
-  told = record { number = e.ended; one = got First e.call e.ended; two = got Second e.call e.ended };
-  buffer = buffer e.call;
-}
+operated e = event running_calls e
 
 abbrev pub queries : List Event → List Query
 queries vs = map (λ v. v.query) vs
@@ -67,8 +86,7 @@ abbrev pub preparation : History → List Event
 preparation h = map prepared (vec_items h.preparation)
 
 abbrev pub operation : Option (List Event) → List Event
-operation None = []
-operation (Some vs) = vs
+operation o = unwrap_or o []
 
 abbrev pub running : History → Option (List Event)
 running h = option_map (λ es. map operated (vec_items es)) h.running
@@ -76,9 +94,11 @@ running h = option_map (λ es. map operated (vec_items es)) h.running
 abbrev pub events : History → List Event
 events h = preparation h ++ operation (running h)
 
--- the same entries, answered: what was asked stays, and so does the buffer of a refused cycle
+-- the entry v, answered, is w: what was asked stays, and so does the buffer of a refused cycle
+pub record IsAnswered (v w : Event) : Type 0 where
+  pub query : w.query ≡ v.query
+  pub buffer : is_err w.told.number ≡ true → w.buffer ≡ v.buffer
+
+-- the same entries, answered
 abbrev pub Answered : List Event → List Event → Type 0
-Answered [] [] = Unit {0}
-Answered [] (w ∷ ws) = ⊥
-Answered (v ∷ vs) [] = ⊥
-Answered (v ∷ vs) (w ∷ ws) = (w.query ≡ v.query) × (is_err w.told.number ≡ true → w.buffer ≡ v.buffer) × Answered vs ws
+Answered vs ws = AllZip IsAnswered vs ws

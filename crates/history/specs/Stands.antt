@@ -10,6 +10,7 @@ use Rattle.module.specs.Effects.{Answer, Asked, acknowledgement, answer, calls, 
 use Rattle.module.specs.Share.{Rules, Share, born, share, wanted}
 use Rattle.module.specs.declared.inner.Inner.{Inner}
 use Rattle.registers.specs.declared.Stage.{Stage}
+use Rattle.std.specs.List.{fold}
 
 -- one motor: its share of the module, and the points of its coil
 pub record Standing (C A : Type 0) : Type 0 where
@@ -53,8 +54,7 @@ stand_after k s q = record {
 }
 
 abbrev pub stands : {C A : Type 0} → Rules C A → Stand C A → List Query → Stand C A
-stands k s [] = s
-stands k s (q ∷ qs) = stands k (stand_after k s q) qs
+stands k s qs = fold (stand_after k) s qs
 
 -- what a call tells: its number, and after an accepted cycle each motor's half of the answer
 pub record Told : Type 0 where

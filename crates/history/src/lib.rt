@@ -2,14 +2,13 @@
 #![tactic(auto)]
 
 ghost use Rattle.std.specs.Prelude.{map};
-ghost use Rattle.history.specs.Lists.{asked as asks, buffer, operated as call_event, prepared as set_event};
+ghost use Rattle.history.specs.Lists.{CallKind, event, query, running_calls, settings};
 ghost use Rattle.history.specs.Ran.{Once, Passed, Ran};
 ghost use Rattle.module.specs.Share.{rules};
-ghost use Rattle.registers.specs.declared.Stage.TheVariants as stages;
 
 use axis::Axis;
 use coil::CoilDriver;
-use module::{Closed, Module, Preparation, Running};
+use module::{Closed, Module, ModuleStage, Preparation, Running};
 use refusal::Refusal;
 use registers::Model;
 
@@ -44,45 +43,56 @@ pub struct History {
     pub running: Option<Vec<Entry<Call>>>,
 }
 
-// One call of a running module.
-fn make_call<A: Model, D: CoilDriver>(
-    running: &mut Module<Running, A, D>,
-    call: &mut Call,
-) -> Result<(), Refusal>
-    ensures { Once (rules A.Axis.kind A.Model.lines) D.CoilDriver.meaning D.CoilDriver.did running.old.inner running.new.inner (record { stage = stages.Running; asked = asks call.entry.now }) (buffer call.entry.now) (call_event (record { call = call.exit.now; ended = result })) }
-{
-    match call {
-        Call::Setting(SetRegister { register, value }) => running.setting(*register, *value),
-        Call::Cycle { orders, answer } => {
-            running.cycle(orders.as_slice(), answer.as_mut_slice())
+// A call that can be made of a module at the stage S.
+trait ModuleCall<S: ModuleStage> {
+    ghost kind: { CallKind Self };
+
+    fn make<A: Model, D: CoilDriver>(&mut self, module: &mut Module<S, A, D>) -> Result<(), Refusal>
+    where
+        Self: Sized,
+        ensures { Once (rules A.Axis.kind A.Model.lines) D.CoilDriver.meaning D.CoilDriver.did «module».old.inner «module».new.inner (query kind self.old) (kind.buffer self.old) (event kind (record { call = self.new; ended = result })) };
+}
+
+// A setting can be made at each stage.
+impl<S: ModuleStage> ModuleCall<S> for SetRegister {
+    ghost kind = { settings S.ModuleStage.stage };
+
+    fn make<A: Model, D: CoilDriver>(
+        &mut self,
+        module: &mut Module<S, A, D>,
+    ) -> Result<(), Refusal> {
+        module.setting(self.register, self.value)
+    }
+}
+
+// The other calls can be made of a running module alone.
+impl ModuleCall<Running> for Call {
+    ghost kind = { running_calls };
+
+    fn make<A: Model, D: CoilDriver>(
+        &mut self,
+        module: &mut Module<Running, A, D>,
+    ) -> Result<(), Refusal> {
+        match self {
+            Call::Setting(setting) => setting.make(module),
+            Call::Cycle { orders, answer } => {
+                module.cycle(orders.as_slice(), answer.as_mut_slice())
+            }
+            Call::Report { motor, flags } => module.report(*motor, *flags),
+            Call::Acknowledge { motor } => module.acknowledge(*motor),
         }
-        Call::Report { motor, flags } => running.report(*motor, *flags),
-        Call::Acknowledge { motor } => running.acknowledge(*motor),
     }
 }
 
-// The settings of a module in preparation, in order.
-fn prepare<A: Model, D: CoilDriver>(
-    prepared: &mut Module<Preparation, A, D>,
-    entries: &mut [Entry<SetRegister>],
+// Makes the calls of a list, in order.
+fn make_all<S: ModuleStage, C: ModuleCall<S>, A: Model, D: CoilDriver>(
+    module: &mut Module<S, A, D>,
+    entries: &mut [Entry<C>],
 )
-    ensures { Passed (rules A.Axis.kind A.Model.lines) D.CoilDriver.meaning D.CoilDriver.did prepared.old.inner prepared.new.inner (map set_event entries.old) (map set_event entries.new) }
+    ensures { Passed (rules A.Axis.kind A.Model.lines) D.CoilDriver.meaning D.CoilDriver.did «module».old.inner «module».new.inner (map (event C.kind) entries.old) (map (event C.kind) entries.new) }
 {
-    for entry in entries.iter_mut() {
-        let SetRegister { register, value } = entry.call;
-        entry.ended = prepared.setting(register, value);
-    }
-}
-
-// The calls of a running module, in order.
-fn operate<A: Model, D: CoilDriver>(
-    running: &mut Module<Running, A, D>,
-    entries: &mut [Entry<Call>],
-)
-    ensures { Passed (rules A.Axis.kind A.Model.lines) D.CoilDriver.meaning D.CoilDriver.did running.old.inner running.new.inner (map call_event entries.old) (map call_event entries.new) }
-{
-    for entry in entries.iter_mut() {
-        entry.ended = make_call(running, &mut entry.call);
+    for entry in entries {
+        entry.ended = entry.call.make(module);
     }
 }
 
@@ -91,12 +101,12 @@ pub fn run<A: Model, D: CoilDriver>(driver: D, history: &mut History) -> Module<
     ensures { Ran (rules A.Axis.kind A.Model.lines) D.CoilDriver.meaning D.CoilDriver.did driver history.old history.new result.inner }
 {
     let mut prepared: Module<Preparation, A, D> = Module::new(driver);
-    prepare(&mut prepared, history.preparation.as_mut_slice());
+    make_all(&mut prepared, history.preparation.as_mut_slice());
     match &mut history.running {
         None => prepared.close(),
         Some(entries) => {
             let mut running = prepared.start();
-            operate(&mut running, entries.as_mut_slice());
+            make_all(&mut running, entries.as_mut_slice());
             running.close()
         }
     }

@@ -3,34 +3,22 @@ use Rattle.std.proofs.Common.{◌≡◌, ℕ, Bool, true, false, cond, eqb, List
 use Rattle.coil.specs.declared.CoilId.{CoilId}
 use Rattle.coil.specs.declared.CoilId.TheVariants.{First, Second}
 use Rattle.history.specs.Stands.{Query, Stand, given, motor, stand_after, stands, tells, told}
-use Rattle.law.specs.Deeds.{Reply, deeds_of, ending, heard, heard_one, more, reply_to}
+use Rattle.law.specs.Deeds.{Reply, deeds_of, ending, heard, heard_one, replies, reply, reply_to}
 use Rattle.module.specs.Effects.{Answer, Asked, Deed, acknowledgement, acknowledges, addressee, after, answer, concerns, cycle, cycle_deed, deed, flags_answer, half, length_answer, lives, misses, motor_answer, motor_deed, moves, outcome, report, reports, set_deed, set_motor, sets, setting, setting_answer, starts, value_answer}
 use Rattle.module.specs.Share.{Rules, Share, powered}
 use Rattle.refusal.specs.declared.Refusal.TheVariants.{AnswerLength, Closed, RecordLength, UnknownMotor}
-use Rattle.registers.specs.Tables.{Line, is_open, look_up}
+use Rattle.registers.specs.Tables.{is_open, look_up}
 use Rattle.registers.specs.declared.Register.{Register}
 use Rattle.registers.specs.declared.Setting.{Setting}
 use Rattle.registers.specs.declared.Setting.TheVariants.{Configuration, Current}
 use Rattle.registers.specs.declared.Stage.{Stage}
-
--- the reply of a motor to what is done to it, by the rules
-abbrev pub reply : {C A : Type 0} → Rules C A → Share C A → Deed → List Reply → List Reply
-reply k h (sets stage n v) rs = record { number = setting_answer k.kind stage (look_up k.lines n) (powered k.kind h) v; bytes = None } ∷ rs
-reply k h starts rs = rs
-reply k h (moves orders) rs = record { number = Ok tt; bytes = Some (outcome k.kind h orders).answer } ∷ rs
-reply k h (misses n m) rs = record { number = length_answer n m; bytes = None } ∷ rs
-reply k h (reports f) rs = record { number = flags_answer f; bytes = None } ∷ rs
-reply k h acknowledges rs = record { number = Ok tt; bytes = None } ∷ rs
-
-abbrev pub replies : {C A : Type 0} → Rules C A → CoilId → Share C A → List Deed → List Reply
-replies k i h [] = []
-replies k i h (d ∷ ds) = reply k h d (replies k i (after k i h d) ds)
+use Rattle.std.specs.List.{cons_option}
 
 own_after : {C A : Type 0} (k : Rules C A) (i : CoilId) (s : Stand C A) (q : Query) → (motor (stand_after k s q) i).own ≡ lives k i (motor s i).own (deed k.lines q.stage i q.asked)
 own_after k First s q = refl
 own_after k Second s q = refl
 
-ending_more : {C A : Type 0} (k : Rules C A) (i : CoilId) (h : Share C A) (o : Option Deed) (ds : List Deed) → ending k i (lives k i h o) ds ≡ ending k i h (more o ds)
+ending_more : {C A : Type 0} (k : Rules C A) (i : CoilId) (h : Share C A) (o : Option Deed) (ds : List Deed) → ending k i (lives k i h o) ds ≡ ending k i h (cons_option o ds)
 ending_more k i h None ds = refl
 ending_more k i h (Some d) ds = refl
 
@@ -47,7 +35,7 @@ abbrev once : {C A : Type 0} → Rules C A → Share C A → Option Deed → Lis
 once k h None rs = rs
 once k h (Some d) rs = reply k h d rs
 
-replies_more : {C A : Type 0} (k : Rules C A) (i : CoilId) (h : Share C A) (o : Option Deed) (ds : List Deed) → once k h o (replies k i (lives k i h o) ds) ≡ replies k i h (more o ds)
+replies_more : {C A : Type 0} (k : Rules C A) (i : CoilId) (h : Share C A) (o : Option Deed) (ds : List Deed) → once k h o (replies k i (lives k i h o) ds) ≡ replies k i h (cons_option o ds)
 replies_more k i h None ds = refl
 replies_more k i h (Some d) ds = refl
 
@@ -122,19 +110,7 @@ heard_tells {C} {A} k i s (q ∷ qs) =
     ∙ heard_call k i s q.stage q.asked (replies k i (lives k i h o) (deeds_of k.lines i qs))
     ∙ replies_more k i h o (deeds_of k.lines i qs)
 
--- the start in between changes neither
-pub ending_append : {C A : Type 0} (k : Rules C A) (i : CoilId) (h : Share C A) (xs ys : List Deed) → ending k i h (xs ++ ys) ≡ ending k i (ending k i h xs) ys
-ending_append k i h [] ys = refl
-ending_append k i h (a ∷ xs) ys = ending_append k i (after k i h a) xs ys
-
+-- the start in between has no reply
 pub replies_start : {C A : Type 0} (k : Rules C A) (i : CoilId) (h : Share C A) (xs ys : List Deed) → replies k i h (xs ++ starts ∷ ys) ≡ replies k i h (xs ++ ys)
 replies_start k i h [] ys = refl
 replies_start k i h (a ∷ xs) ys = ap (reply k h a) (replies_start k i (after k i h a) xs ys)
-
-pub deeds_append : (lines : List Line) (i : CoilId) (ps qs : List Query) → deeds_of lines i (ps ++ qs) ≡ deeds_of lines i ps ++ deeds_of lines i qs
-deeds_append lines i [] qs = refl
-deeds_append lines i (p ∷ ps) qs = ap (more (deed lines p.stage i p.asked)) (deeds_append lines i ps qs) ∙ by (deed lines p.stage i p.asked) (deeds_of lines i ps) (deeds_of lines i qs)
-  where
-    by : (o : Option Deed) (xs ys : List Deed) → more o (xs ++ ys) ≡ more o xs ++ ys
-    by None xs ys = refl
-    by (Some d) xs ys = refl

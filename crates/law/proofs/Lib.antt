@@ -1,5 +1,4 @@
 mod Counts
 mod Heard
 mod Proved
-mod Rested
 mod Supply

@@ -1,7 +1,8 @@
 -- The supply holds after any list of calls.
-use Rattle.std.proofs.Common.{◌≡◌, ℕ, ◌+◌, ◌≤◌, min, Bool, true, false, cond, eqb, ltb, leb, List, [], ◌∷◌, ◌++◌, length, ℤ, pos, negsuc, Some, None, Option, sym, refl, ap, ◌∙◌, subst, arith, ltb-true, leb-true}
+use Rattle.std.proofs.Common.{◌≡◌, ℕ, ◌+◌, ◌≤◌, min, Bool, true, false, cond, eqb, ltb, leb, List, [], ◌∷◌, length, ℤ, pos, negsuc, Some, None, Option, sym, refl, ap, ◌∙◌, subst, arith, ltb-true, leb-true}
 use Rattle.axis.specs.Kinds.{Kind, Seen}
-use Rattle.axis.specs.Levels.{Levels, chosen, is_powered, points_from, with_level}
+use Rattle.axis.specs.Levels.{Levels, chosen, is_powered, with_level}
+use Rattle.coil.specs.Numbers.{points_from}
 use Rattle.axis.specs.declared.currents.Current.{Current}
 use Rattle.axis.specs.declared.currents.Current.TheVariants.{Off, Holding, Nominal, Maximum}
 use Rattle.axis.specs.declared.currents.CurrentSetting.{CurrentSetting}
@@ -11,7 +12,7 @@ use Rattle.coil.specs.Meaning.{Coil, noted, tripped}
 use Rattle.coil.specs.declared.CoilId.{CoilId}
 use Rattle.coil.specs.declared.CoilId.TheVariants.{First, Second}
 use Rattle.history.specs.Stands.{Query, Stand, Standing, coil, share_after, stand_after, stands}
-use Rattle.law.specs.Deeds.{deeds_of, more, quiet, quiet_after}
+use Rattle.law.specs.Deeds.{deeds_of, quiet, quiet_after}
 use Rattle.module.specs.Effects.{Asked, Deed, acknowledgement, acknowledges, adjusted, after, concerns, currents_after, cycle, deed, half, lives, misses, motor_deed, moves, number, points_after, report, reports, set_deed, sets, setting, starts, with_points}
 use Rattle.module.specs.Share.{Rules, Share, powered, wanted}
 use Rattle.registers.specs.Tables.{Line, is_open, look_up}
@@ -19,6 +20,8 @@ use Rattle.registers.specs.declared.Register.{Register}
 use Rattle.registers.specs.declared.Setting.{Setting}
 use Rattle.registers.specs.declared.Setting.TheVariants as place
 use Rattle.registers.specs.declared.Stage.{Stage}
+use Rattle.std.proofs.lemmas.Bool.{cond_both}
+use Rattle.std.specs.List.{cons_option}
 use Rattle.supply.specs.Shares.{granted}
 
 -- each current setting is at most 167
@@ -46,17 +49,13 @@ sane_points l which (pos n) s = by (leb n 167) refl
     by false e = s
 sane_points l which (negsuc n) s = s
 
-sane_cond : (b : Bool) (l m : Levels) → Sane l → Sane m → Sane (cond b l m)
-sane_cond true l m s t = s
-sane_cond false l m s t = t
-
 sane_adjusted : (t : Setting) (p : Bool) (l : Levels) (v : ℤ) → Sane l → Sane (adjusted t p l v)
 sane_adjusted place.Configuration p l v s = s
-sane_adjusted (place.Current i which) p l v s = sane_cond p l (with_points l which (points_from v)) s (sane_points l which v s)
+sane_adjusted (place.Current i which) p l v s = cond_both p l (with_points l which (points_from v)) Sane (λ _. s) (λ _. sane_points l which v s)
 
 sane_set : (stage : Stage) (o : Option Register) (p : Bool) (l : Levels) (v : ℤ) → Sane l → Sane (currents_after stage o p l v)
 sane_set stage None p l v s = s
-sane_set stage (Some r) p l v s = sane_cond (is_open r.opened stage) (adjusted r.setting p l v) l (sane_adjusted r.setting p l v s) s
+sane_set stage (Some r) p l v s = cond_both (is_open r.opened stage) (adjusted r.setting p l v) l Sane (λ _. sane_adjusted r.setting p l v s) (λ _. s)
 
 sane_after : {C A : Type 0} (k : Rules C A) (i : CoilId) (h : Share C A) (d : Deed) → Sane h.currents → Sane (after k i h d).currents
 sane_after k i h (sets stage n v) s = sane_set stage (look_up k.lines n) (powered k.kind h) h.currents v s
@@ -71,13 +70,9 @@ sane_lives k i h None s = s
 sane_lives k i h (Some d) s = sane_after k i h d s
 
 -- a setting does not alter what a motor wants
-same_either : {X : Type 0} (b : Bool) (x : X) → cond b x x ≡ x
-same_either true x = refl
-same_either false x = refl
-
 powered_kept : (stage : Stage) (o : Option Register) (l : Levels) (v : ℤ) → currents_after stage o true l v ≡ l
 powered_kept stage None l v = refl
-powered_kept stage (Some r) l v = ap (λ z. cond (is_open r.opened stage) z l) (by r.setting) ∙ same_either (is_open r.opened stage) l
+powered_kept stage (Some r) l v = cond_both (is_open r.opened stage) (adjusted r.setting true l v) l (λ z. z ≡ l) (λ _. by r.setting) (λ _. refl)
   where
     by : (t : Setting) → adjusted t true l v ≡ l
     by place.Configuration = refl
@@ -95,11 +90,10 @@ pub record Fine {C A : Type 0} (k : Kind C A) (m : Standing C A) (b : Bool) : Ty
   pub enough : b ≡ true → min 100 (wanted k m.own) ≤ m.points
   pub rests : b ≡ true → tripped m.own.flags ≡ true → wanted k m.own ≡ 0
 
-abbrev pub Rests : {C A : Type 0} → Kind C A → Type 0
-Rests {C} {A} k = (config : C) (x : A) (s : Seen) (orders : List ℕ) → tripped (k.cycle config x s orders).flags ≡ true → k.current (k.cycle config x s orders).axis ≡ Off
-
-pub never : {X : Type 0} → false ≡ true → X
-never e = let n : ◌≡◌ {A = ℕ} 0 1 = ap (λ t. cond t 1 0) e in absurd (omega arith)
+-- what holds of every kind of axis
+pub record Lawful {C A : Type 0} (k : Kind C A) : Type 0 where
+  pub starts : k.current k.fresh ≡ Off
+  pub rests : (config : C) (x : A) (s : Seen) (orders : List ℕ) → tripped (k.cycle config x s orders).flags ≡ true → k.current (k.cycle config x s orders).axis ≡ Off
 
 fine_report : {C A : Type 0} (k : Rules C A) (i : CoilId) (m : Standing C A) (b : Bool) (f w v : ℕ) → Fine k.kind m b → (t u x : Bool) → ltb f 16 ≡ t → tripped f ≡ u → tripped (noted m.own.flags f) ≡ x →
     Fine k.kind (record { own = after k i m.own (reports f); points = points_after i (coil m) w v (Some (reports f)) }) (quiet_after b (reports f))
@@ -119,7 +113,7 @@ fine_report {C} {A} k i m b f w v s t u x te ue xe = record {
     Enough z = z ≡ true → min 100 want ≤ points_after i (coil m) w v (Some (reports f))
 
     enough : (t u x : Bool) → ltb f 16 ≡ t → tripped f ≡ u → tripped (noted m.own.flags f) ≡ x → cond t (cond (tripped f) false b) b ≡ true → min 100 want ≤ cond t (cond (tripped (noted m.own.flags f)) 0 m.points) m.points
-    enough true true x te ue xe q = never (sym (ap (λ z. cond z false b) ue) ∙ q)
+    enough true true x te ue xe q = let no : false ≡ true = rw ue at q in cc
     enough true false true te ue xe q =
         let bt : b ≡ true = sym (ap (λ z. cond z false b) ue) ∙ q in
         let none : want ≡ 0 = s.rests bt (report_tripped m.own.flags f (ltb-true f 16 te) xe ue) in
@@ -134,11 +128,11 @@ fine_report {C} {A} k i m b f w v s t u x te ue xe = record {
     Quiet z = z ≡ true → tripped (after k i m.own (reports f)).flags ≡ true → want ≡ 0
 
     rests : (t u : Bool) → ltb f 16 ≡ t → tripped f ≡ u → cond t (cond (tripped f) false b) b ≡ true → tripped (cond t (noted m.own.flags f) m.own.flags) ≡ true → want ≡ 0
-    rests true true te ue q y = never (sym (ap (λ z. cond z false b) ue) ∙ q)
+    rests true true te ue q y = let no : false ≡ true = rw ue at q in cc
     rests true false te ue q y = s.rests (sym (ap (λ z. cond z false b) ue) ∙ q) (report_tripped m.own.flags f (ltb-true f 16 te) y ue)
     rests false u te ue q y = s.rests q y
 
-fine_after : {C A : Type 0} (k : Rules C A) (i : CoilId) (m : Standing C A) (b : Bool) (d : Deed) (w v : ℕ) → Rests k.kind → Fine k.kind m b → min 100 (wanted k.kind (after k i m.own d)) ≤ granted i w v →
+fine_after : {C A : Type 0} (k : Rules C A) (i : CoilId) (m : Standing C A) (b : Bool) (d : Deed) (w v : ℕ) → Lawful k.kind → Fine k.kind m b → min 100 (wanted k.kind (after k i m.own d)) ≤ granted i w v →
     Fine k.kind (record { own = after k i m.own d; points = points_after i (coil m) w v (Some d) }) (quiet_after b d)
 fine_after k i m b (sets stage n x) w v law s g =
     let same : wanted k.kind (after k i m.own (sets stage n x)) ≡ wanted k.kind m.own = wants_still (k.kind.current m.own.axis) stage (look_up k.lines n) m.own.currents x in
@@ -151,7 +145,7 @@ fine_after k i m b starts w v law s g = s
 fine_after k i m b (moves orders) w v law s g = record {
   sane = s.sane;
   enough = λ _. g;
-  rests = λ _ t. ap (λ c. chosen c m.own.currents) (law m.own.config m.own.axis (record { count = m.own.count; flags = m.own.flags }) orders t);
+  rests = λ _ t. ap (λ c. chosen c m.own.currents) (law.rests m.own.config m.own.axis (record { count = m.own.count; flags = m.own.flags }) orders t);
 }
 fine_after k i m b (misses n l) w v law s g = s
 fine_after k i m b (reports f) w v law s g = fine_report k i m b f w v s (ltb f 16) (tripped f) (tripped (noted m.own.flags f)) refl refl refl
@@ -161,16 +155,12 @@ abbrev calmed : Bool → Option Deed → Bool
 calmed b None = b
 calmed b (Some d) = quiet_after b d
 
-fine_lives : {C A : Type 0} (k : Rules C A) (i : CoilId) (m : Standing C A) (b : Bool) (o : Option Deed) (w v : ℕ) → Rests k.kind → Fine k.kind m b → min 100 (wanted k.kind (lives k i m.own o)) ≤ granted i w v →
+fine_lives : {C A : Type 0} (k : Rules C A) (i : CoilId) (m : Standing C A) (b : Bool) (o : Option Deed) (w v : ℕ) → Lawful k.kind → Fine k.kind m b → min 100 (wanted k.kind (lives k i m.own o)) ≤ granted i w v →
     Fine k.kind (record { own = lives k i m.own o; points = points_after i (coil m) w v o }) (calmed b o)
 fine_lives k i m b None w v law s g = s
 fine_lives k i m b (Some d) w v law s g = fine_after k i m b d w v law s g
 
 -- the points of both coils together
-no_more : (b : Bool) (x y : ℕ) → x ≤ y → cond b x y ≤ y
-no_more true x y h = h
-no_more false x y h = omega arith
-
 less_set : (i : CoilId) (c : Coil) (w v : ℕ) (stage : Stage) (o : Option Register) (n : ℕ) (x : ℤ) → points_after i c w v (set_deed i stage o n x) ≤ c.points
 less_set i c w v stage None n x = omega arith
 less_set i c w v stage (Some r) n x = by (concerns i r.setting)
@@ -183,7 +173,7 @@ less_report : (i : CoilId) (c : Coil) (w v n f : ℕ) → points_after i c w v (
 less_report i c w v n f = by (eqb n (number i))
   where
     by : (t : Bool) → points_after i c w v (cond t (Some (reports f)) None) ≤ c.points
-    by true = no_more (ltb f 16) (cond (tripped (noted c.flags f)) 0 c.points) c.points (no_more (tripped (noted c.flags f)) 0 c.points (omega arith))
+    by true = cond_both (ltb f 16) (cond (tripped (noted c.flags f)) 0 c.points) c.points (λ n. n ≤ c.points) (λ _. cond_both (tripped (noted c.flags f)) 0 c.points (λ n. n ≤ c.points) (λ _. omega arith) (λ _. omega arith)) (λ _. omega arith)
     by false = omega arith
 
 less_acknowledge : (i : CoilId) (c : Coil) (w v n : ℕ) → points_after i c w v (motor_deed i n acknowledges) ≤ c.points
@@ -215,7 +205,7 @@ pub record AllFine {C A : Type 0} (k : Kind C A) (s : Stand C A) (a b : Bool) : 
   pub two : Fine k s.two b
   pub together : s.one.points + s.two.points ≤ 267
 
-all_after : {C A : Type 0} (k : Rules C A) (s : Stand C A) (a b : Bool) (q : Query) → Rests k.kind → AllFine k.kind s a b →
+all_after : {C A : Type 0} (k : Rules C A) (s : Stand C A) (a b : Bool) (q : Query) → Lawful k.kind → AllFine k.kind s a b →
     AllFine k.kind (stand_after k s q) (calmed a (deed k.lines q.stage First q.asked)) (calmed b (deed k.lines q.stage Second q.asked))
 all_after {C} {A} k s a b q law f =
     let h : Share C A = share_after k First s.one q in
@@ -231,20 +221,16 @@ all_after {C} {A} k s a b q law f =
       together = together_after k.lines q.stage q.asked (coil s.one) (coil s.two) w v f.together z.2;
     }
 
-quiet_more : (b : Bool) (o : Option Deed) (ds : List Deed) → quiet (calmed b o) ds ≡ quiet b (more o ds)
+quiet_more : (b : Bool) (o : Option Deed) (ds : List Deed) → quiet (calmed b o) ds ≡ quiet b (cons_option o ds)
 quiet_more b None ds = refl
 quiet_more b (Some d) ds = refl
 
 -- after any list of calls
-pub all_fine : {C A : Type 0} (k : Rules C A) (s : Stand C A) (a b : Bool) (qs : List Query) → Rests k.kind → AllFine k.kind s a b → AllFine k.kind (stands k s qs) (quiet a (deeds_of k.lines First qs)) (quiet b (deeds_of k.lines Second qs))
+pub all_fine : {C A : Type 0} (k : Rules C A) (s : Stand C A) (a b : Bool) (qs : List Query) → Lawful k.kind → AllFine k.kind s a b → AllFine k.kind (stands k s qs) (quiet a (deeds_of k.lines First qs)) (quiet b (deeds_of k.lines Second qs))
 all_fine k s a b [] law f = f
 all_fine {C} {A} k s a b (q ∷ qs) law f =
     let o : Option Deed = deed k.lines q.stage First q.asked in
     let p : Option Deed = deed k.lines q.stage Second q.asked in
     let P : Bool → Type 0 = λ z. AllFine k.kind (stands k (stand_after k s q) qs) z (quiet (calmed b p) (deeds_of k.lines Second qs)) in
-    let Q : Bool → Type 0 = λ z. AllFine k.kind (stands k (stand_after k s q) qs) (quiet a (more o (deeds_of k.lines First qs))) z in
+    let Q : Bool → Type 0 = λ z. AllFine k.kind (stands k (stand_after k s q) qs) (quiet a (cons_option o (deeds_of k.lines First qs))) z in
     subst Q (quiet_more b p (deeds_of k.lines Second qs)) (subst P (quiet_more a o (deeds_of k.lines First qs)) (all_fine k (stand_after k s q) (calmed a o) (calmed b p) qs law (all_after k s a b q law f)))
-
-pub quiet_start : (b : Bool) (xs ys : List Deed) → quiet b (xs ++ starts ∷ ys) ≡ quiet b (xs ++ ys)
-quiet_start b [] ys = refl
-quiet_start b (x ∷ xs) ys = quiet_start (quiet_after b x) xs ys

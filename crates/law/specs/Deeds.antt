@@ -1,24 +1,20 @@
 -- What a history does to one motor, and what is read off that alone. Assumes nothing.
-use Rattle.std.specs.Prelude.{ℕ, Bool, true, false, cond, List, [], ◌∷◌, ℤ, pos, ◌+ℤ◌, ◌*ℤ◌, Some, None, Option, nat_lt}
+use Rattle.std.specs.Prelude.{ℕ, Bool, true, false, cond, List, [], ◌∷◌, ℤ, pos, ◌+ℤ◌, ◌*ℤ◌, Some, None, Ok, Option, nat_lt}
 use Rattle.coil.specs.Meaning.{cleared, noted, tripped}
 use Rattle.coil.specs.declared.CoilId.{CoilId}
 use Rattle.coil.specs.declared.CoilId.TheVariants.{First, Second}
 use Rattle.history.specs.Stands.{Query, Told}
-use Rattle.module.specs.Effects.{Answer, Deed, acknowledges, after, config_after, deed, misses, moves, reports, sets, starts}
-use Rattle.module.specs.Share.{Rules, Share}
+use Rattle.module.specs.Effects.{Answer, Deed, acknowledges, after, config_after, deed, flags_answer, length_answer, misses, moves, outcome, reports, sets, setting_answer, starts}
+use Rattle.module.specs.Share.{Rules, Share, powered}
 use Rattle.registers.specs.Tables.{Line, look_up, step_lines}
+use Rattle.std.specs.List.{filter_map, fold}
 use Rattle.step_axis.specs.Taken.{steps_taken, step_kind}
 use Rattle.step_axis.specs.Words.{counted, scale}
 use Rattle.step_axis.specs.declared.config.StepConfig.{StepConfig}
 
-abbrev pub more : {X : Type 0} → Option X → List X → List X
-more None xs = xs
-more (Some x) xs = x ∷ xs
-
 -- what a list of calls does to the motor i
 abbrev pub deeds_of : List Line → CoilId → List Query → List Deed
-deeds_of lines i [] = []
-deeds_of lines i (q ∷ qs) = more (deed lines q.stage i q.asked) (deeds_of lines i qs)
+deeds_of lines i qs = filter_map (λ q. deed lines q.stage i q.asked) qs
 
 -- one motor's answer to a call: the number, and its half of an accepted cycle's answer
 pub record Reply : Type 0 where
@@ -49,13 +45,24 @@ quiet_after b (reports f) = cond (nat_lt f 16) (cond (tripped f) false b) b
 quiet_after b acknowledges = b
 
 abbrev pub quiet : Bool → List Deed → Bool
-quiet b [] = b
-quiet b (d ∷ ds) = quiet (quiet_after b d) ds
+quiet b ds = fold quiet_after b ds
 
 -- the motor i after a list of deeds, by the rules
 abbrev pub ending : {C A : Type 0} → Rules C A → CoilId → Share C A → List Deed → Share C A
-ending k i h [] = h
-ending k i h (d ∷ ds) = ending k i (after k i h d) ds
+ending k i h ds = fold (after k i) h ds
+
+-- the reply of a motor to what is done to it, by the rules
+abbrev pub reply : {C A : Type 0} → Rules C A → Share C A → Deed → List Reply → List Reply
+reply k h (sets stage n v) rs = record { number = setting_answer k.kind stage (look_up k.lines n) (powered k.kind h) v; bytes = None } ∷ rs
+reply k h starts rs = rs
+reply k h (moves orders) rs = record { number = Ok tt; bytes = Some (outcome k.kind h orders).answer } ∷ rs
+reply k h (misses n m) rs = record { number = length_answer n m; bytes = None } ∷ rs
+reply k h (reports f) rs = record { number = flags_answer f; bytes = None } ∷ rs
+reply k h acknowledges rs = record { number = Ok tt; bytes = None } ∷ rs
+
+abbrev pub replies : {C A : Type 0} → Rules C A → CoilId → Share C A → List Deed → List Reply
+replies k i h [] = []
+replies k i h (d ∷ ds) = reply k h d (replies k i (after k i h d) ds)
 
 -- the microsteps of all words taken: flags and configuration are those at the start of the list,
 -- and reports, acknowledgements and settings of the configuration that are accepted change them

@@ -12,6 +12,7 @@ use Rattle.module.specs.Effects.{Deed, starts}
 use Rattle.module.specs.Share.{born, rules, wanted}
 use Rattle.module.specs.declared.motor.Fault.{Fault}
 use Rattle.registers.specs.Tables.{Line, step_lines}
+use Rattle.std.specs.Option.{unwrap_or}
 use Rattle.step_axis.specs.Taken.{step_kind}
 use Rattle.step_axis.specs.Words.{first_config}
 
@@ -33,8 +34,7 @@ abbrev pub lines_of : FunctionModel → List Line
 lines_of StepWords = step_lines
 
 abbrev pub called : Option (List Query) → List Query
-called None = []
-called (Some qs) = qs
+called qs = unwrap_or qs []
 
 abbrev pub started : List Line → CoilId → Option (List Query) → List Deed
 started lines i None = []
@@ -80,7 +80,7 @@ wanted_points StepWords i c ds = wanted step_kind (ending (rules step_kind step_
 -- both coils together never pass 267 points, yet a coil that was not tripped since the last accepted cycle
 -- has at least the smaller of 100 and what its motor wants
 pub record SupplyHolds (r : Run) : Type 0 where
-  pub together : r.last.one.points + r.last.two.points ≤ 267
+  pub together : r.last.first.points + r.last.second.points ≤ 267
   pub enough : (i : CoilId) → quiet true (deeds r i) ≡ true → min 100 (wanted_points r.model i (at r.first i) (deeds r i)) ≤ (at r.last i).points
 
 -- the microsteps of the words that the motor i took

@@ -1,3 +1,4 @@
 pub mod Deeds
 pub mod Law
+pub mod Models
 pub mod Whole

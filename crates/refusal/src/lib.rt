@@ -7,24 +7,25 @@ ghost use Rattle.refusal.specs.declared.Refusal.TheVariants as refusals;
 
 use coil::{OutOfRange, UnknownCoil};
 
+// Each refusal with the number that the module answers.
 #[derive(Clone, Copy, PartialEq, Eq, Debug)]
 pub enum Refusal {
     // the register isn't in the function model's table
-    UnknownRegister,
+    UnknownRegister = 1,
     // the register isn't open at this stage
-    Closed,
+    Closed = 2,
     // the value is out of the register's range
-    OutOfRange,
+    OutOfRange = 3,
     // the register's motor is powered
-    MotorPowered,
+    MotorPowered = 4,
     // the cycle record hasn't 16 bytes
-    RecordLength,
+    RecordLength = 5,
     // the answer buffer hasn't 16 bytes
-    AnswerLength,
+    AnswerLength = 6,
     // the motor is neither 1 nor 2
-    UnknownMotor,
+    UnknownMotor = 7,
     // the reported flags are not below 16
-    UnknownFlags,
+    UnknownFlags = 8,
 }
 
 impl Refusal {
@@ -32,16 +33,7 @@ impl Refusal {
     pub fn number(self) -> u8
         ensures { result ≡ number self }
     {
-        match self {
-            Refusal::UnknownRegister => 1,
-            Refusal::Closed => 2,
-            Refusal::OutOfRange => 3,
-            Refusal::MotorPowered => 4,
-            Refusal::RecordLength => 5,
-            Refusal::AnswerLength => 6,
-            Refusal::UnknownMotor => 7,
-            Refusal::UnknownFlags => 8,
-        }
+        self as u8
     }
 }
 
@@ -49,10 +41,7 @@ impl Refusal {
 pub fn answer_number(answer: Result<(), Refusal>) -> u8
     ensures { result ≡ answer_number answer }
 {
-    match answer {
-        Ok(()) => 0,
-        Err(refusal) => refusal.number(),
-    }
+    answer.err().map_or(0, Refusal::number)
 }
 
 impl From<UnknownCoil> for Refusal {

@@ -1,15 +1,13 @@
-use Rattle.std.proofs.Common.{vec_len, refl, rules as std_rules}
+use Rattle.std.proofs.Common.{refl, rules}
 use Rattle.history.proofs.Whole.{ran_none, ran_some}
-use Rattle.module.proofs.Cuts.{kept}
-use Rattle.module.specs.Share.{rules}
+use Rattle.std.proofs.lemmas.List.{with_items_is}
 use Rattle.history.proofs.run.Goals as goal
 
 pub returns-in-None : goal.returns-in-None
 returns-in-None g c =
-    ran_none (rules g.A.Axis.kind g.A.Model.lines) g.D.CoilDriver.meaning g.D.CoilDriver.did c.args.driver c.args.history.now _ _ c.prepare.new.entries c.new-prepared.result.inner c.prepare.new.prepared.inner c.close.result.inner
-    c.as_mut_slice.ensures.value (kept (vec_len c.args.history.now.preparation) c.prepare.new.entries _ (search std_rules)) c.in-None.is c.in-None.is c.new-prepared.ensures c.prepare.ensures c.close.ensures
+    ran_none c.as_mut_slice.ensures.value (with_items_is c.args.history.now.preparation c.make_all.new.entries (search rules)) c.in-None.is c.in-None.is c.new-prepared.ensures c.make_all.ensures c.close.ensures
 
 pub returns-in-Some : goal.returns-in-Some
 returns-in-Some g c =
-    ran_some (rules g.A.Axis.kind g.A.Model.lines) g.D.CoilDriver.meaning g.D.CoilDriver.did c.args.driver c.args.history.now _ _ c.prepare.new.entries c.in-Some.entries _ _ c.operate.new.entries c.new-prepared.result.inner c.prepare.new.prepared.inner c.start-running.result.inner c.operate.new.running.inner c.close-in-Some.result.inner
-    c.as_mut_slice.ensures.value (kept (vec_len c.args.history.now.preparation) c.prepare.new.entries _ (search std_rules)) c.in-Some.is refl c.as_mut_slice-in-Some.ensures.value (kept (vec_len c.in-Some.entries) c.operate.new.entries _ (search std_rules)) c.new-prepared.ensures c.prepare.ensures c.start-running.ensures c.operate.ensures c.close-in-Some.ensures
+    ran_some c.as_mut_slice.ensures.value (with_items_is c.args.history.now.preparation c.make_all.new.entries (search rules)) c.in-Some.is refl c.as_mut_slice-in-Some.ensures.value (with_items_is c.in-Some.entries c.make_all-in-Some.new.entries (search rules))
+    c.new-prepared.ensures c.make_all.ensures c.start-running.ensures c.make_all-in-Some.ensures c.close-in-Some.ensures
