@@ -31,7 +31,7 @@ impl From<CoilFault> for AxisFault {
 }
 
 // One kind of axis. What it means stands in `kind`; points are not among what it sees.
-pub trait Axis: Copy {
+pub trait Axis: Drop {
     // the configuration that all axes of a module share
     type Config: Copy;
 

@@ -16,7 +16,7 @@ pub struct Fault {
     pub cause: AxisFault,
 }
 
-#[derive(Clone, Copy)]
+#[derive(Drop)]
 pub struct Motor<A> {
     pub(crate) axis: A,
     pub(crate) currents: Currents,

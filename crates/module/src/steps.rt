@@ -46,10 +46,10 @@ impl<A: Axis, D: CoilDriver> Inner<A, D> {
         ensures { result ≡ self.driver }
     {
         let Inner {
-            configuration: _configuration,
+            configuration: _,
             motors: _,
-            cycles: _cycles,
-            supply: _supply,
+            cycles: _,
+            supply: _,
             driver,
         } = self;
         driver

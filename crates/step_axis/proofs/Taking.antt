@@ -17,7 +17,6 @@ use Rattle.coil.specs.declared.CoilCall.TheVariants.{Advance}
 use Rattle.coil.specs.declared.CoilFault.{CoilFault}
 use Rattle.coil.specs.declared.CoilFault.TheVariants.{Tripped}
 use Rattle.coil.specs.declared.CoilId.{CoilId}
-use Rattle.coil.specs.declared.CoilId.TheVariants.{First, Second}
 use Rattle.coil.specs.declared.DriverCall.{DriverCall}
 use Rattle.step_axis.specs.Taken.{Took, advances, count_after, declined, code_after, ending, steps_taken, taken, taking}
 use Rattle.step_axis.specs.Words.{code, field, steps, word, words}
