@@ -1,5 +1,6 @@
 // A module on the bench: what is sent to it, and what is read of its answer.
 ghost use Rattle.std.specs.Prelude.{◌≡◌, max, Ok, fold};
+ghost use Rattle.std.specs.Fn.{FnOnceReturnsAtMut};
 ghost use Rattle.checks.specs.Bench.{answer_to, bench, fresh, last_answer, position_in, sent, sent_times, word_record};
 
 use coil::CoilId;
@@ -19,6 +20,17 @@ pub(crate) fn prepare(first: u32, second: u32) -> Prepared
     Module::new(PulseDriver::new(first, second))
 }
 
+// Starts the module, lets it be read, and ends it whatever that gave.
+pub(crate) fn while_running<T, F: FnOnce(&mut Spare) -> T>(prepared: Prepared, read: F) -> T
+    requires { F.IsAlwaysCallable read }
+    ensures { (spare ended : _) × (spare.inner ≡ prepared.inner) × FnOnceReturnsAtMut F.FnOnce read spare result ended }
+{
+    let mut spare = prepared.start();
+    let given = read(&mut spare);
+    let _driver = spare.end();
+    given
+}
+
 // A cycle record with one word for each motor.
 pub(crate) fn words(first: u16, second: u16) -> [u8; 16]
     ensures { result ≡ word_record first second }
@@ -29,6 +41,7 @@ pub(crate) fn words(first: u16, second: u16) -> [u8; 16]
 }
 
 // One cycle with a word for each motor; gives the answer.
+#[tactic(auto, using(crate::proofs::Sending::sent_stand, crate::proofs::Sending::sent_answer))]
 pub(crate) fn send(spare: &mut Spare, first: u16, second: u16) -> Result<[u8; 16], Refusal>
     ensures after { bench spare.new.inner ≡ sent first second (bench spare.old.inner) }
     ensures answer { result ≡ Ok (answer_to first second (bench spare.old.inner)) }
@@ -70,9 +83,5 @@ pub(crate) fn position(answer: &[u8; 16], motor: CoilId) -> u32
 pub(crate) fn greatest(bytes: &[u8]) -> u8
     ensures { result ≡ fold max 0 bytes.now }
 {
-    let mut greatest = 0u8;
-    for byte in bytes {
-        greatest = greatest.max(*byte);
-    }
-    greatest
+    bytes.iter().copied().fold(0, u8::max)
 }

@@ -11,7 +11,7 @@ loop-init c = (refl, refl)
 pub loop-preserved : goal.loop-preserved
 loop-preserved c = (
   c.send.ensures.after ∙ ap (sent c.args.first c.args.second) c.loop.invariant.0 ∙ sym (sent_more c.loop.counter c.args.first c.args.second (bench c.args.spare.now.inner)),
-  given c.send.result c.in_ok-answer.answer _ _ c.in_ok-answer.was c.send.ensures.answer (ap (answer_to c.args.first c.args.second) c.loop.invariant.0 ∙ sym (answer_more c.loop.counter c.args.first c.args.second (bench c.args.spare.now.inner))),
+  given c.in_ok-answer.was c.send.ensures.answer (ap (answer_to c.args.first c.args.second) c.loop.invariant.0 ∙ sym (answer_more c.loop.counter c.args.first c.args.second (bench c.args.spare.now.inner))),
 )
 
 pub returns : goal.returns
