@@ -1,8 +1,9 @@
 -- The calls of the two runs, and what the runs tell.
 use Rattle.std.proofs.Common.{◌≡◌, ℕ, ◌<◌, List, [], ◌∷◌, ◌++◌, ◌+◌, map, cond, not, count_by, zero-add, Bool, true, Some, None, vec_items, Option, Vec, sym, refl, ap, ◌∙◌, subst}
 use Rattle.checks.specs.Bench.{bench, fresh, step_rules, word_query}
-use Rattle.checks.specs.Runs.{asked_in, bytes_of, calls_in, items_of, report_query, second_answer, trip_calls}
-use Rattle.coil.specs.Meaning.{new_coil}
+use Rattle.checks.specs.Runs.{Shows, asked_in, bytes_of, calls_in, items_of, report_query, second_answer, trip_calls}
+use Rattle.coil.specs.Meaning.{new_coil, noted, tripped}
+use Rattle.coil.specs.Modulo.{modulo}
 use Rattle.drivers.specs.Pulsed.{Pulsed, pulse_meaning}
 use Rattle.drivers.specs.declared.pulse.PulseDriver.{PulseDriver}
 use Rattle.history.specs.Lists.{Answered, Event, events, operated, operation, preparation, prepared, queries, running, tolds}
@@ -39,6 +40,15 @@ none_unlike alike same key (x ∷ xs) (y ∷ ys) e =
     let here : alike (key x) (key y) ≡ true = ap (alike (key x)) (sym first) ∙ same (key x) in
     sum_by-cons (λ p. cond (not (alike (key p.0) (key p.1))) 1 0) (x, y) (zip xs ys) ∙ ap (λ b. cond (not b) 1 0 + count_by (λ p. not (alike (key p.0) (key p.1))) (zip xs ys)) here ∙ zero-add _ ∙ none_unlike alike same key xs ys rest
 
+-- what each of the two runs leaves
+pub without_shows : Shows 3200 (stands step_rules (fresh 0 0) (trip_calls 0))
+unfolding fresh modulo noted trip_calls tripped
+without_shows = record { first = refl; second = refl; flags = refl; fault = refl }
+
+pub with_shows : Shows 1600 (stands step_rules (fresh 0 0) (trip_calls 8))
+unfolding fresh modulo noted trip_calls tripped
+with_shows = record { first = refl; second = refl; flags = refl; fault = refl }
+
 none_answered : (ws : List Event) → Answered [] ws → ws ≡ []
 none_answered [] a = refl
 none_answered (w ∷ ws) a = absurd a
@@ -55,7 +65,7 @@ answers_told : (es : List (Entry Call)) → map second_answer es ≡ map (λ t. 
 answers_told [] = refl
 answers_told (e ∷ es) = ap (λ bs. second_answer e ∷ bs) (answers_told es)
 
-module _ (flags : ℕ) (d : PulseDriver) (h g : History) (x : Inner StepAxis PulseDriver StepConfig) (made : pulse_meaning d ≡ record { one = new_coil 0; two = new_coil 0 }) (settings : vec_items h.preparation ≡ []) (calls : asked_in h ≡ trip_calls flags) (r : Ran step_rules pulse_meaning Pulsed d h g x) where
+module _ (flags : ℕ) {d : PulseDriver} {h g : History} {x : Inner StepAxis PulseDriver StepConfig} (made : pulse_meaning d ≡ record { one = new_coil 0; two = new_coil 0 }) (settings : vec_items h.preparation ≡ []) (calls : asked_in h ≡ trip_calls flags) (r : Ran step_rules pulse_meaning Pulsed d h g x) where
   -- how the module stands at the end
   pub run_end : bench x ≡ stands step_rules (fresh 0 0) (trip_calls flags)
   unfolding asked_in fresh

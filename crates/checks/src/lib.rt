@@ -17,7 +17,7 @@ mod reading;
 mod runs;
 mod summary;
 
-use bench::{Prepared, Spare, greatest, position, prepare, send, send_times, while_running};
+use bench::{Prepared, Spare, Words, greatest, position, prepare, send, send_times, while_running};
 pub use error::CheckError;
 pub use reading::{Quantity, Reading, Sent};
 pub use runs::trip;
@@ -27,7 +27,7 @@ pub use summary::Summary;
 fn read_full_turn(spare: &mut Spare) -> Result<[Reading; 4], Refusal>
     ensures { bench spare.old.inner ≡ fresh 0 0 → result ≡ Ok full_turn }
 {
-    let answer = send_times(spare, 32, 0x0000, 0x80C8)?;
+    let answer = send_times(spare, 32, Words(0x0000, 0x80C8))?;
     let byte = u32::from(greatest(&answer[0..8]));
     let steps = position(&answer, CoilId::Second);
     let sent = Sent::FullTurn;
@@ -49,7 +49,7 @@ pub fn full_turn() -> Result<[Reading; 4], Refusal>
 fn read_no_current(spare: &mut Spare) -> Result<[Reading; 4], Refusal>
     ensures { bench spare.old.inner ≡ fresh 0 0 → result ≡ Ok no_current }
 {
-    let answer = send(spare, 0x0005, 0x0005)?;
+    let answer = send(spare, Words(0x0005, 0x0005))?;
     let first = position(&answer, CoilId::First);
     let second = position(&answer, CoilId::Second);
     let sent = Sent::NoCurrent;
@@ -80,7 +80,7 @@ fn set_maximum(prepared: &mut Prepared) -> Result<(), Refusal>
 fn read_maximum(spare: &mut Spare) -> Result<[Reading; 2], Refusal>
     ensures { bench spare.old.inner ≡ maximum_set → result ≡ Ok maximum_current }
 {
-    let _answer = send(spare, 0xC000, 0xC000)?;
+    let _answer = send(spare, Words(0xC000, 0xC000))?;
     let first = u32::from(spare.points(1)?);
     let second = u32::from(spare.points(2)?);
     let sent = Sent::MaximumCurrent;
@@ -103,9 +103,9 @@ pub fn maximum_current() -> Result<[Reading; 2], Refusal>
 fn read_there_and_back(spare: &mut Spare) -> Result<[Reading; 4], Refusal>
     ensures { bench spare.old.inner ≡ configured → result ≡ Ok there_and_back }
 {
-    let there = position(&send(spare, 0x8200, 0x0000)?, CoilId::First);
+    let there = position(&send(spare, Words(0x8200, 0x0000))?, CoilId::First);
     let far = spare.count(1)?;
-    let back = position(&send_times(spare, 8, 0xA040, 0x0000)?, CoilId::First);
+    let back = position(&send_times(spare, 8, Words(0xA040, 0x0000))?, CoilId::First);
     Ok([
         Sent::There.reading(CoilId::First, Quantity::Count, far, 5096),
         Sent::There.reading(CoilId::First, Quantity::Position, there, 512),
@@ -134,6 +134,6 @@ pub fn all(heap: Global) -> Result<Vec<Reading>, CheckError>
     readings.extend_from_slice(&no_current()?)?;
     readings.extend_from_slice(&maximum_current()?)?;
     readings.extend_from_slice(&there_and_back()?)?;
-    readings.extend_from_slice(trip(heap)?.as_slice())?;
+    readings.extend_from_slice(&trip(heap)?)?;
     Ok(readings)
 }

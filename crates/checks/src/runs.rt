@@ -11,7 +11,7 @@ ghost use Rattle.history.specs.declared.Call.{Call};
 ghost use Rattle.history.specs.declared.Entry.{Entry};
 ghost use Rattle.refusal.specs.Numbers.{answer_number};
 
-use crate::bench::words;
+use crate::bench::Words;
 use crate::error::CheckError;
 use crate::reading::{Quantity, Reading, Sent};
 use coil::{CoilId, OVERCURRENT};
@@ -29,8 +29,8 @@ type Ended = Module<Closed, StepAxis, PulseDriver>;
 fn cycle(heap: Global) -> Result<Entry<Call>, AllocError>
     ensures { IfOk result (λ e. (operated e).query ≡ word_query 0x8064 0x80C8) }
 {
-    let orders = Vec::from_slice(heap, &words(0x8064, 0x80C8))?;
-    let answer = Vec::from_slice(heap, &[0; 16])?;
+    let orders = Vec::from_slice(heap, &Words(0x8064, 0x80C8).record())?;
+    let answer = vec![in heap; 0; 16]?;
     Ok(Entry {
         call: Call::Cycle { orders, answer },
         ended: Ok(()),
@@ -80,7 +80,8 @@ fn read_run(ended: &Ended, sent: Sent, count: u32) -> Result<[Reading; 4], Refus
 }
 
 fn read_runs(one: &Ended, other: &Ended) -> Result<([Reading; 4], [Reading; 4]), Refusal>
-    requires { (Shows 3200 (bench one.now.inner)) × (Shows 1600 (bench other.now.inner)) }
+    requires without { Shows 3200 (bench one.now.inner) }
+    requires with { Shows 1600 (bench other.now.inner) }
     ensures { result ≡ Ok (one_run WithoutTrip 3200, one_run WithTrip 1600) }
 {
     let without = read_run(one, Sent::WithoutTrip, 3200)?;

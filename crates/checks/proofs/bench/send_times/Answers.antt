@@ -10,14 +10,14 @@ loop-init c = (refl, refl)
 
 pub loop-preserved : goal.loop-preserved
 loop-preserved c = (
-  c.send.ensures.after ∙ ap (sent c.args.first c.args.second) c.loop.invariant.0 ∙ sym (sent_more c.loop.counter c.args.first c.args.second (bench c.args.spare.now.inner)),
-  given c.in_ok-answer.was c.send.ensures.answer (ap (answer_to c.args.first c.args.second) c.loop.invariant.0 ∙ sym (answer_more c.loop.counter c.args.first c.args.second (bench c.args.spare.now.inner))),
+  c.send.ensures.after ∙ ap (sent c.args.words.0 c.args.words.1) c.loop.invariant.0 ∙ sym (sent_more c.loop.counter c.args.words.0 c.args.words.1 (bench c.args.spare.now.inner)),
+  given c.in_ok-answer.was c.send.ensures.answer (ap (answer_to c.args.words.0 c.args.words.1) c.loop.invariant.0 ∙ sym (answer_more c.loop.counter c.args.words.0 c.args.words.1 (bench c.args.spare.now.inner))),
 )
 
 pub returns : goal.returns
 returns c =
     let all : c.loop.counter ≡ c.args.times = omega arith in
     record {
-      after = c.loop.invariant.0 ∙ ap (λ n. sent_times n c.args.first c.args.second (bench c.args.spare.now.inner)) all;
-      answer = ap Ok (c.loop.invariant.1 ∙ ap (λ n. last_answer n c.args.first c.args.second (bench c.args.spare.now.inner)) all);
+      after = c.loop.invariant.0 ∙ ap (λ n. sent_times n c.args.words.0 c.args.words.1 (bench c.args.spare.now.inner)) all;
+      answer = ap Ok (c.loop.invariant.1 ∙ ap (λ n. last_answer n c.args.words.0 c.args.words.1 (bench c.args.spare.now.inner)) all);
     }
