@@ -1,7 +1,7 @@
 -- The calls of the two runs, and what the runs tell.
-use Rattle.std.proofs.Common.{◌≡◌, ℕ, ◌<◌, List, [], ◌∷◌, ◌++◌, ◌+◌, map, cond, not, count_by, zero-add, Bool, true, Some, None, vec_items, Option, Vec, sym, refl, ap, ◌∙◌, subst}
-use Rattle.checks.specs.Bench.{bench, fresh, step_rules, word_query}
-use Rattle.checks.specs.Runs.{Shows, asked_in, bytes_of, calls_in, items_of, report_query, second_answer, trip_calls}
+use Rattle.std.proofs.Common.{◌≡◌, ℕ, List, [], ◌∷◌, ◌++◌, ◌+◌, map, cond, not, count_by, zero-add, Bool, true, Some, None, vec_items, Option, Vec, sym, refl, ap, ◌∙◌, subst}
+use Rattle.checks.specs.Bench.{bench, fresh, step_rules}
+use Rattle.checks.specs.Runs.{Shows, asked_in, bytes_of, calls_in, items_of, second_answer, trip_calls}
 use Rattle.coil.specs.Meaning.{new_coil, noted, tripped}
 use Rattle.coil.specs.Modulo.{modulo}
 use Rattle.drivers.specs.Pulsed.{Pulsed, pulse_meaning}
@@ -12,7 +12,6 @@ use Rattle.history.specs.Stands.{first_stand, stands, tells}
 use Rattle.history.specs.declared.Call.{Call}
 use Rattle.history.specs.declared.Entry.{Entry}
 use Rattle.history.specs.declared.History.{History}
-use Rattle.history.specs.declared.SetRegister.{SetRegister}
 use Rattle.module.specs.declared.inner.Inner.{Inner}
 use Rattle.refusal.specs.Numbers.{answer_number}
 use Rattle.std.proofs.lemmas.List.Sums.{sum_by-cons}
@@ -22,13 +21,6 @@ use Rattle.std.specs.declared.alloc.Global.{Global}
 use Rattle.step_axis.specs.Taken.{step_kind}
 use Rattle.step_axis.specs.declared.StepAxis.{StepAxis}
 use Rattle.step_axis.specs.declared.config.StepConfig.{StepConfig}
-
-pub asked : (p : Vec (Entry SetRegister) Global) (v : Vec (Entry Call) Global) (a b r d e : Entry Call) (flags : ℕ) → vec_items p ≡ [] → vec_items v ≡ a ∷ b ∷ r ∷ d ∷ e ∷ [] →
-    (operated a).query ≡ word_query 0x8064 0x80C8 → (operated b).query ≡ word_query 0x8064 0x80C8 → (operated r).query ≡ report_query flags → (operated d).query ≡ word_query 0x8064 0x80C8 → (operated e).query ≡ word_query 0x8064 0x80C8 →
-    asked_in (record { preparation = p; running = Some v }) ≡ trip_calls flags
-unfolding asked_in trip_calls
-asked p v a b r d e flags none items qa qb qr qd qe =
-    ap (λ ps. queries (map prepared ps ++ map operated (vec_items v))) none ∙ ap (λ vs. queries (map operated vs)) items ∙ cc (qa, qb, qr, qd, qe)
 
 -- none of the entries of two runs, side by side, are unlike where all their keys are the same
 pub none_unlike : {X Y : Type 0} (alike : Y → Y → Bool) → ((y : Y) → alike y y ≡ true) → (key : X → Y) (xs ys : List X) → map key xs ≡ map key ys → count_by (λ p. not (alike (key p.0) (key p.1))) (zip xs ys) ≡ 0

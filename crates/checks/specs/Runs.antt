@@ -1,5 +1,5 @@
 -- The two runs of the trip: their calls, and what is compared of them. Assumes nothing.
-use Rattle.std.specs.Prelude.{◌≡◌, ℕ, List, [], ◌∷◌, Some, None, Ok, Err, vec_items, Option, Vec, Bool}
+use Rattle.std.specs.Prelude.{◌≡◌, ℕ, List, [], ◌∷◌, Some, None, vec_items, Option, Vec, Bool}
 use Rattle.std.specs.Fn.{CalledAt, Mut}
 use Rattle.std.specs.Borrow.{Bor}
 use Rattle.checks.specs.Bench.{word_query}

@@ -13,7 +13,7 @@ pub(crate) type Prepared = Module<Preparation, StepAxis, PulseDriver>;
 
 pub(crate) type Spare = Module<Running, StepAxis, PulseDriver>;
 
-// A module in preparation over coils at these counts.
+// A module in preparation over coils at these counts, which the driver takes one by one too.
 pub(crate) fn prepare(first: u32, second: u32) -> Prepared
     ensures { bench result.inner ≡ fresh first second }
 {
@@ -58,6 +58,7 @@ pub(crate) fn send(spare: &mut Spare, words: Words) -> Result<[u8; 16], Refusal>
 }
 
 // The same cycle so many times; gives the last answer.
+#[tactic(auto, unfolding(crate::specs::Bench::sent_times, crate::specs::Bench::last_answer))]
 pub(crate) fn send_times(spare: &mut Spare, times: u32, words: Words) -> Result<[u8; 16], Refusal>
     ensures after { bench spare.new.inner ≡ sent_times times words.0 words.1 (bench spare.old.inner) }
     ensures answer { result ≡ Ok (last_answer times words.0 words.1 (bench spare.old.inner)) }

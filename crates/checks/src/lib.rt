@@ -68,6 +68,7 @@ pub fn no_current() -> Result<[Reading; 4], Refusal>
     while_running(prepare(0, 0), read_no_current)
 }
 
+#[tactic(auto, using(crate::proofs::Sending::set_number), unfolding(crate::specs::Bench::fresh))]
 fn set_maximum(prepared: &mut Prepared) -> Result<(), Refusal>
     requires { bench prepared.old.inner ≡ fresh 0 0 }
     ensures after { bench prepared.new.inner ≡ maximum_set }

@@ -47,6 +47,7 @@ fn report(flags: u8) -> Entry<Call>
 }
 
 // Four cycles, and halfway a report of these flags for motor 1.
+#[tactic(auto, unfolding(crate::specs::Runs::asked_in, crate::specs::Runs::trip_calls))]
 fn history(heap: Global, flags: u8) -> Result<History, AllocError>
     ensures settings { IfOk result (λ h. h.preparation.items ≡ []) }
     ensures calls { IfOk result (λ h. asked_in h ≡ trip_calls flags) }
@@ -110,6 +111,7 @@ fn second_half(entry: &Entry<Call>) -> &[u8]
 }
 
 // How many entries of two runs, side by side, are unlike.
+// The test takes both entries: a chain whose closure calls a key function that lends from the entry gets no proof.
 fn count_unlike<'a, F: FnMut(&(&'a Entry<Call>, &'a Entry<Call>)) -> bool>(
     one: &'a [Entry<Call>],
     other: &'a [Entry<Call>],

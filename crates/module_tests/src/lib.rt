@@ -30,8 +30,8 @@ mod tests {
         given
     }
 
-    // One cycle with a word for each motor; gives the answer. The checks of a spare have the same function, with
-    // a contract, and don't hand it out.
+    // One cycle with a word for each motor; gives the answer.
+    // The checks of a spare keep such a function for themselves, and these tests stand beside them, not on them.
     fn send(module: &mut Started, first: u16, second: u16) -> Result<[u8; 16], Refusal> {
         let [a, b] = first.to_le_bytes();
         let [c, d] = second.to_le_bytes();
