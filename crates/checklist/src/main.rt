@@ -5,10 +5,10 @@ use checks::Summary;
 
 fn run(rt: &HostRuntime) -> anyhow::Result<()> {
     let readings = checks::all(rt.alloc())?;
-    for reading in readings.as_slice() {
+    for reading in &readings {
         println!(rt; "{reading}")?;
     }
-    let summary = Summary::of(readings.as_slice());
+    let summary = Summary::of(&readings);
     println!(rt; "{summary}")?;
     summary.verdict()?;
     Ok(())

@@ -1,8 +1,9 @@
 -- The calls of the two runs, and what the runs tell.
-use Rattle.std.proofs.Common.{◌≡◌, ℕ, ◌<◌, List, [], ◌∷◌, ◌++◌, map, length, get_or, Some, None, vec_items, Option, Vec, sym, refl, ap, ◌∙◌, subst}
-use Rattle.checks.specs.Bench.{bench, fresh, step_rules, word_query}
-use Rattle.checks.specs.Runs.{asked_in, bytes_of, calls_in, items_of, number_of, report_query, second_answer, trip_calls}
-use Rattle.coil.specs.Meaning.{new_coil}
+use Rattle.std.proofs.Common.{◌≡◌, ℕ, List, [], ◌∷◌, ◌++◌, ◌+◌, map, cond, not, count_by, zero-add, Bool, true, Some, None, vec_items, Option, Vec, sym, refl, ap, ◌∙◌, subst}
+use Rattle.checks.specs.Bench.{bench, fresh, step_rules}
+use Rattle.checks.specs.Runs.{Shows, asked_in, bytes_of, calls_in, items_of, second_answer, trip_calls}
+use Rattle.coil.specs.Meaning.{new_coil, noted, tripped}
+use Rattle.coil.specs.Modulo.{modulo}
 use Rattle.drivers.specs.Pulsed.{Pulsed, pulse_meaning}
 use Rattle.drivers.specs.declared.pulse.PulseDriver.{PulseDriver}
 use Rattle.history.specs.Lists.{Answered, Event, events, operated, operation, preparation, prepared, queries, running, tolds}
@@ -11,31 +12,34 @@ use Rattle.history.specs.Stands.{first_stand, stands, tells}
 use Rattle.history.specs.declared.Call.{Call}
 use Rattle.history.specs.declared.Entry.{Entry}
 use Rattle.history.specs.declared.History.{History}
-use Rattle.history.specs.declared.SetRegister.{SetRegister}
 use Rattle.module.specs.declared.inner.Inner.{Inner}
-use Rattle.std.proofs.lemmas.List.{get_or-map}
+use Rattle.refusal.specs.Numbers.{answer_number}
+use Rattle.std.proofs.lemmas.List.Sums.{sum_by-cons}
+use Rattle.std.specs.List.{zip}
 use Rattle.std.specs.Option.{option_map}
 use Rattle.std.specs.declared.alloc.Global.{Global}
 use Rattle.step_axis.specs.Taken.{step_kind}
 use Rattle.step_axis.specs.declared.StepAxis.{StepAxis}
 use Rattle.step_axis.specs.declared.config.StepConfig.{StepConfig}
 
--- five pushes, one after the other
-pub pushed : {X : Type 0} (a b c d e : X) (v₀ v₁ v₂ v₃ v₄ v₅ : List X) → v₀ ≡ [] → v₁ ≡ v₀ ++ a ∷ [] → v₂ ≡ v₁ ++ b ∷ [] → v₃ ≡ v₂ ++ c ∷ [] → v₄ ≡ v₃ ++ d ∷ [] → v₅ ≡ v₄ ++ e ∷ [] → v₅ ≡ a ∷ b ∷ c ∷ d ∷ e ∷ []
-pushed a b c d e v₀ v₁ v₂ v₃ v₄ v₅ p₀ p₁ p₂ p₃ p₄ p₅ =
-    p₅ ∙ ap (λ v. v ++ e ∷ []) (p₄ ∙ ap (λ v. v ++ d ∷ []) (p₃ ∙ ap (λ v. v ++ c ∷ []) (p₂ ∙ ap (λ v. v ++ b ∷ []) (p₁ ∙ ap (λ v. v ++ a ∷ []) p₀))))
+-- none of the entries of two runs, side by side, are unlike where all their keys are the same
+pub none_unlike : {X Y : Type 0} (alike : Y → Y → Bool) → ((y : Y) → alike y y ≡ true) → (key : X → Y) (xs ys : List X) → map key xs ≡ map key ys → count_by (λ p. not (alike (key p.0) (key p.1))) (zip xs ys) ≡ 0
+none_unlike alike same key [] ys e = refl
+none_unlike alike same key (x ∷ xs) [] e = refl
+none_unlike alike same key (x ∷ xs) (y ∷ ys) e =
+    let first : key x ≡ key y = cc in
+    let rest : map key xs ≡ map key ys = cc in
+    let here : alike (key x) (key y) ≡ true = ap (alike (key x)) (sym first) ∙ same (key x) in
+    sum_by-cons (λ p. cond (not (alike (key p.0) (key p.1))) 1 0) (x, y) (zip xs ys) ∙ ap (λ b. cond (not b) 1 0 + count_by (λ p. not (alike (key p.0) (key p.1))) (zip xs ys)) here ∙ zero-add _ ∙ none_unlike alike same key xs ys rest
 
-pub asked : (p : Vec (Entry SetRegister) Global) (v : Vec (Entry Call) Global) (a b r d e : Entry Call) (flags : ℕ) → vec_items p ≡ [] → vec_items v ≡ a ∷ b ∷ r ∷ d ∷ e ∷ [] →
-    (operated a).query ≡ word_query 0x8064 0x80C8 → (operated b).query ≡ word_query 0x8064 0x80C8 → (operated r).query ≡ report_query flags → (operated d).query ≡ word_query 0x8064 0x80C8 → (operated e).query ≡ word_query 0x8064 0x80C8 →
-    asked_in (record { preparation = p; running = Some v }) ≡ trip_calls flags
-unfolding asked_in trip_calls
-asked p v a b r d e flags none items qa qb qr qd qe =
-    ap (λ ps. queries (map prepared ps ++ map operated (vec_items v))) none ∙ ap (λ vs. queries (map operated vs)) items ∙ cc (qa, qb, qr, qd, qe)
+-- what each of the two runs leaves
+pub without_shows : Shows 3200 (stands step_rules (fresh 0 0) (trip_calls 0))
+unfolding fresh modulo noted trip_calls tripped
+without_shows = record { first = refl; second = refl; flags = refl; fault = refl }
 
--- equal images stand at equal places
-pub same_at : {X Y : Type 0} (f : X → Y) (xs ys : List X) (i : ℕ) (x y : X) → i < length xs → i < length ys → ((d : X) → x ≡ get_or xs i d) → ((d : X) → y ≡ get_or ys i d) → map f xs ≡ map f ys → f x ≡ f y
-same_at f xs ys i x y below below' at at' e =
-    ap f (at x) ∙ sym (get_or-map f xs i x (f x) below) ∙ ap (λ zs. get_or zs i (f x)) e ∙ get_or-map f ys i y (f x) below' ∙ sym (ap f (at' y))
+pub with_shows : Shows 1600 (stands step_rules (fresh 0 0) (trip_calls 8))
+unfolding fresh modulo noted trip_calls tripped
+with_shows = record { first = refl; second = refl; flags = refl; fault = refl }
 
 none_answered : (ws : List Event) → Answered [] ws → ws ≡ []
 none_answered [] a = refl
@@ -45,15 +49,15 @@ run_calls : (o : Option (Vec (Entry Call) Global)) → operation (option_map (λ
 run_calls None = refl
 run_calls (Some v) = refl
 
-numbers_told : (es : List (Entry Call)) → map (λ e. number_of e.ended) es ≡ map (λ t. number_of t.number) (tolds (map operated es))
+numbers_told : (es : List (Entry Call)) → map (λ e. answer_number e.ended) es ≡ map (λ t. answer_number t.number) (tolds (map operated es))
 numbers_told [] = refl
-numbers_told (e ∷ es) = ap (λ ns. number_of e.ended ∷ ns) (numbers_told es)
+numbers_told (e ∷ es) = ap (λ ns. answer_number e.ended ∷ ns) (numbers_told es)
 
 answers_told : (es : List (Entry Call)) → map second_answer es ≡ map (λ t. bytes_of t.two) (tolds (map operated es))
 answers_told [] = refl
 answers_told (e ∷ es) = ap (λ bs. second_answer e ∷ bs) (answers_told es)
 
-module _ (flags : ℕ) (d : PulseDriver) (h g : History) (x : Inner StepAxis PulseDriver StepConfig) (made : pulse_meaning d ≡ record { one = new_coil 0; two = new_coil 0 }) (settings : vec_items h.preparation ≡ []) (calls : asked_in h ≡ trip_calls flags) (r : Ran step_rules pulse_meaning Pulsed d h g x) where
+module _ (flags : ℕ) (h : History) {d : PulseDriver} {g : History} {x : Inner StepAxis PulseDriver StepConfig} (made : pulse_meaning d ≡ record { one = new_coil 0; two = new_coil 0 }) (settings : vec_items h.preparation ≡ []) (calls : asked_in h ≡ trip_calls flags) (r : Ran step_rules pulse_meaning Pulsed d h g x) where
   -- how the module stands at the end
   pub run_end : bench x ≡ stands step_rules (fresh 0 0) (trip_calls flags)
   unfolding asked_in fresh
@@ -68,8 +72,8 @@ module _ (flags : ℕ) (d : PulseDriver) (h g : History) (x : Inner StepAxis Pul
       ap tolds (sym (run_calls g.running)) ∙ ap (λ vs. tolds (vs ++ operation (running g))) (sym none) ∙ r.answers
       ∙ ap (λ c. tells step_rules (first_stand step_kind c) (queries (events h))) made ∙ ap (tells step_rules (fresh 0 0)) calls
 
-  pub run_numbers : map (λ e. number_of e.ended) (calls_in g) ≡ map (λ t. number_of t.number) (tells step_rules (fresh 0 0) (trip_calls flags))
-  run_numbers = numbers_told (calls_in g) ∙ ap (map (λ t. number_of t.number)) run_told
+  pub run_numbers : map (λ e. answer_number e.ended) (calls_in g) ≡ map (λ t. answer_number t.number) (tells step_rules (fresh 0 0) (trip_calls flags))
+  run_numbers = numbers_told (calls_in g) ∙ ap (map (λ t. answer_number t.number)) run_told
 
   pub run_answers : map second_answer (calls_in g) ≡ map (λ t. bytes_of t.two) (tells step_rules (fresh 0 0) (trip_calls flags))
   run_answers = answers_told (calls_in g) ∙ ap (map (λ t. bytes_of t.two)) run_told

@@ -1,6 +1,6 @@
 -- One cycle with a word for each motor, as a step from stand to stand.
-use Rattle.std.proofs.Common.{◌≡◌, ℕ, ◌+◌, true, List, ◌++◌, drop, pos, is_ok, sym, ap, ◌∙◌, subst, add-one, take-append-drop}
-use Rattle.checks.specs.Bench.{answer_to, bench, fresh, last_answer, prepared, sent, sent_times, step_rules, word_record}
+use Rattle.std.proofs.Common.{◌≡◌, ℕ, true, List, ◌++◌, drop, pos, is_ok, sym, ap, ◌∙◌, subst, take-append-drop}
+use Rattle.checks.specs.Bench.{answer_to, bench, fresh, prepared, sent, step_rules, word_record}
 use Rattle.coil.specs.Meaning.{new_coil}
 use Rattle.coil.specs.declared.CoilId.TheVariants.{First, Second}
 use Rattle.drivers.specs.Pulsed.{Pulsed, pulse_meaning}
@@ -35,15 +35,6 @@ made_bench one two d x e m =
 pub set_bench : (n v : ℕ) (x y : Inner StepAxis PulseDriver StepConfig) (r : Answer) → Called step_rules pulse_meaning Pulsed Preparation (setting n (pos v)) x y r → bench y ≡ prepared n v (bench x)
 unfolding prepared
 set_bench n v x y r c = called_stand step_rules pulse_meaning Pulsed Preparation (setting n (pos v)) x y r c
-
--- one cycle more
-pub sent_more : (n one two : ℕ) (s : Stand StepConfig StepAxis) → sent_times (n + 1) one two s ≡ sent one two (sent_times n one two s)
-unfolding sent_times
-sent_more n one two s = ap (λ k. sent_times k one two s) (add-one n)
-
-pub answer_more : (n one two : ℕ) (s : Stand StepConfig StepAxis) → last_answer (n + 1) one two s ≡ answer_to one two (sent_times n one two s)
-unfolding last_answer
-answer_more n one two s = ap (λ k. last_answer k one two s) (add-one n)
 
 pub set_number : (n v : ℕ) (s : Stand StepConfig StepAxis) (x y : Inner StepAxis PulseDriver StepConfig) (r : Answer) → bench x ≡ s → Called step_rules pulse_meaning Pulsed Preparation (setting n (pos v)) x y r → r ≡ answer step_rules Preparation s.one.own s.two.own (setting n (pos v))
 set_number n v s x y r e c = c.number ∙ ap (λ t. answer step_rules Preparation t.one.own t.two.own (setting n (pos v))) e

@@ -1,5 +1,7 @@
 -- The two runs of the trip: their calls, and what is compared of them. Assumes nothing.
-use Rattle.std.specs.Prelude.{◌≡◌, ℕ, List, [], ◌∷◌, Some, None, Ok, Err, vec_items, Option, Vec}
+use Rattle.std.specs.Prelude.{◌≡◌, ℕ, List, [], ◌∷◌, Some, None, vec_items, Option, Vec, Bool}
+use Rattle.std.specs.Fn.{CalledAt, Mut}
+use Rattle.std.specs.Borrow.{Bor}
 use Rattle.checks.specs.Bench.{word_query}
 use Rattle.coil.specs.declared.CoilId.TheVariants.{Second}
 use Rattle.history.specs.Lists.{events, got, queries}
@@ -7,8 +9,7 @@ use Rattle.history.specs.Stands.{Query, Stand}
 use Rattle.history.specs.declared.Call.{Call}
 use Rattle.history.specs.declared.Entry.{Entry}
 use Rattle.history.specs.declared.History.{History}
-use Rattle.module.specs.Effects.{Answer, report}
-use Rattle.refusal.specs.Numbers.{number}
+use Rattle.module.specs.Effects.{report}
 use Rattle.registers.specs.declared.Stage.TheVariants.{Running}
 use Rattle.std.specs.declared.alloc.Global.{Global}
 use Rattle.step_axis.specs.declared.StepAxis.{StepAxis}
@@ -41,11 +42,6 @@ items_of (Some calls) = vec_items calls
 abbrev pub calls_in : History → List (Entry Call)
 calls_in h = items_of h.running
 
--- the number that a call answered, 0 where it was taken
-abbrev pub number_of : Answer → ℕ
-number_of (Ok u) = 0
-number_of (Err refusal) = number refusal
-
 abbrev pub bytes_of : Option (List ℕ) → List ℕ
 bytes_of None = []
 bytes_of (Some bytes) = bytes
@@ -53,3 +49,7 @@ bytes_of (Some bytes) = bytes
 -- motor 2's half of the answer to an accepted cycle
 abbrev pub second_answer : Entry Call → List ℕ
 second_answer e = bytes_of (got Second e.call e.ended)
+
+-- each call of f at two entries answers what the test says of them, and leaves f as it is
+abbrev pub Computes : {F : Type 0} → Mut F (Bor (Bor (Entry Call) × Bor (Entry Call)) × Unit {0}) Bool → F → (Entry Call → Entry Call → Bool) → Type 0
+Computes {F} g f test = (p : Bor (Entry Call) × Bor (Entry Call)) (answer : Bool) (left : F) → CalledAt g f p answer left → (left ≡ f) × (answer ≡ test p.0.now p.1.now)

@@ -4,34 +4,22 @@ ghost use Rattle.checks.specs.declared.error.CheckError.TheVariants.{Memory, Ref
 
 use refusal::Refusal;
 use std::alloc::AllocError;
-use std::error::Error;
-use std::fmt;
+use thiserror::Error;
 
-#[derive(Clone, Copy, Debug)]
+#[derive(Clone, Copy, Debug, Error)]
 pub enum CheckError {
     // want of memory
+    #[error("out of memory")]
     Memory,
     // the module refused a call
+    #[error("the module refused a call with number {}", .0.number())]
     Refused(Refusal),
     // a reading isn't that of a good module
+    #[error("a reading is bad")]
     BadReading,
 }
 
-impl fmt::Display for CheckError {
-    fn fmt<W: fmt::Write>(&self, f: &mut fmt::Formatter<W>) -> fmt::Result {
-        match self {
-            Self::Memory => write!(f, "out of memory"),
-            Self::Refused(refusal) => {
-                let number = refusal.number();
-                write!(f, "the module refused a call with number {number}")
-            }
-            Self::BadReading => write!(f, "a reading is bad"),
-        }
-    }
-}
-
-impl Error for CheckError {}
-
+// The two impls of `From` are by hand, since clauses name the variant that a `?` makes.
 impl From<AllocError> for CheckError {
     ghost from_gives = { λ _ r. r ≡ Memory };
 

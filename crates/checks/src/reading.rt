@@ -1,6 +1,8 @@
 // What a check reads, beside what a good module reads.
 ghost use Rattle.std.specs.Prelude.{◌≡◌, ◌==◌};
+ghost use Rattle.checks.specs.Good.{motor_number};
 
+use coil::CoilId;
 use std::fmt;
 
 // What was sent before a reading.
@@ -35,7 +37,7 @@ impl fmt::Display for Sent {
             Sent::WithTrip => "5 trip of motor 1: sent the same, but halfway flags 8 of motor 1",
             Sent::BothRuns => "5 trip of motor 1: sent both runs",
         };
-        write!(f, "{text}")
+        f.write_str(text)
     }
 }
 
@@ -68,7 +70,7 @@ impl fmt::Display for Quantity {
             Quantity::OtherNumbers => "numbers that differ between the runs",
             Quantity::OtherAnswers => "answers that differ between the runs",
         };
-        write!(f, "{text}")
+        f.write_str(text)
     }
 }
 
@@ -76,8 +78,7 @@ impl fmt::Display for Quantity {
 #[derive(Clone, Copy)]
 pub struct Reading {
     pub sent: Sent,
-    // 1 or 2
-    pub motor: u8,
+    pub motor: CoilId,
     pub quantity: Quantity,
     pub read: u32,
     // what a good module reads
@@ -86,7 +87,7 @@ pub struct Reading {
 
 impl Sent {
     // A reading after this.
-    pub(crate) fn reading(self, motor: u8, quantity: Quantity, read: u32, good: u32) -> Reading
+    pub(crate) fn reading(self, motor: CoilId, quantity: Quantity, read: u32, good: u32) -> Reading
         ensures { result ≡ record { sent = self; motor = motor; quantity = quantity; read = read; good = good } }
     {
         Reading {
@@ -107,6 +108,16 @@ impl Reading {
     }
 }
 
+// A motor's number.
+fn number(motor: CoilId) -> u8
+    ensures { result ≡ motor_number motor }
+{
+    match motor {
+        CoilId::First => 1,
+        CoilId::Second => 2,
+    }
+}
+
 impl fmt::Display for Reading {
     fn fmt<W: fmt::Write>(&self, f: &mut fmt::Formatter<W>) -> fmt::Result {
         let Reading {
@@ -116,6 +127,7 @@ impl fmt::Display for Reading {
             read,
             good,
         } = *self;
+        let motor = number(motor);
         let verdict = if self.is_good() { "good" } else { "bad" };
         write!(
             f,

@@ -16,15 +16,9 @@ impl Summary {
     pub fn of(readings: &[Reading]) -> Summary
         ensures { result ≡ record { readings = length readings.entry.now; good = count_good readings.entry.now } }
     {
-        let mut good = 0;
-        for reading in readings {
-            if reading.is_good() {
-                good += 1;
-            }
-        }
         Summary {
             readings: readings.len(),
-            good,
+            good: readings.iter().filter(|reading| reading.is_good()).count(),
         }
     }
 

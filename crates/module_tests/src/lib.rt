@@ -20,7 +20,18 @@ mod tests {
         Module::new(PulseDriver::new(0, 0))
     }
 
+    // Starts the module, lets it run, and ends it whatever that gave.
+    fn while_running<T, F: FnOnce(&mut Started) -> T>(prepared: Prepared, run: F) -> T
+        requires { F.IsAlwaysCallable run }
+    {
+        let mut module = prepared.start();
+        let given = run(&mut module);
+        let _driver = module.end();
+        given
+    }
+
     // One cycle with a word for each motor; gives the answer.
+    // The checks of a spare keep such a function for themselves, and these tests stand beside them, not on them.
     fn send(module: &mut Started, first: u16, second: u16) -> Result<[u8; 16], Refusal> {
         let [a, b] = first.to_le_bytes();
         let [c, d] = second.to_le_bytes();
@@ -69,10 +80,7 @@ mod tests {
 
     #[test]
     fn settings_are_refused_while_running(rt: HostRuntime) -> Result<(), Fail> {
-        let mut module = prepare().start();
-        let refused = refuse_while_running(&rt, &mut module);
-        let _driver = module.end();
-        refused
+        while_running(prepare(), |module| refuse_while_running(&rt, module))
     }
 
     fn refuse_cycles(rt: &impl Abort, module: &mut Started) -> Result<(), Fail> {
@@ -105,18 +113,12 @@ mod tests {
 
     #[test]
     fn cycles_are_refused(rt: HostRuntime) -> Result<(), Fail> {
-        let mut module = prepare().start();
-        let refused = refuse_cycles(&rt, &mut module);
-        let _driver = module.end();
-        refused
+        while_running(prepare(), |module| refuse_cycles(&rt, module))
     }
 
     #[test]
     fn motors_and_flags_are_refused(rt: HostRuntime) -> Result<(), Fail> {
-        let mut module = prepare().start();
-        let refused = refuse_motors(&rt, &mut module);
-        let _driver = module.end();
-        refused
+        while_running(prepare(), |module| refuse_motors(&rt, module))
     }
 
     fn share(rt: &impl Abort, module: &mut Started) -> Result<(), Fail> {
@@ -130,24 +132,19 @@ mod tests {
 
     #[test]
     fn supply_is_shared(rt: HostRuntime) -> Result<(), Fail> {
-        let mut module = prepare().start();
-        let shared = share(&rt, &mut module);
-        let _driver = module.end();
-        shared
+        while_running(prepare(), |module| share(&rt, module))
     }
 
     // The count of motor 1 after four words of one step each, with this configuration.
     fn count_after_four(configuration: i32) -> Result<u32, Refusal> {
         let mut prepared = prepare();
         let set = prepared.setting(46, configuration);
-        let mut module = prepared.start();
         let orders = [1, 128, 1, 128, 1, 128, 1, 128, 0, 0, 0, 0, 0, 0, 0, 0];
-        let moved = module.cycle(&orders, &mut [0; 16]);
-        let count = module.count(1);
-        let _driver = module.end();
-        set?;
-        moved?;
-        count
+        let count = while_running(prepared, |module| {
+            module.cycle(&orders, &mut [0; 16])?;
+            module.count(1)
+        });
+        set.and(count)
     }
 
     fn wrap(rt: &impl Abort, module: &mut Started) -> Result<(), Fail> {
@@ -167,10 +164,7 @@ mod tests {
         assert_eq!(rt; count_after_four(0x0810), Ok(32));
         assert_eq!(rt; count_after_four(0x0868), Ok(2));
         assert_eq!(rt; count_after_four(0x0870), Ok(4));
-        let mut module = prepare().start();
-        let wrapped = wrap(&rt, &mut module);
-        let _driver = module.end();
-        wrapped
+        while_running(prepare(), |module| wrap(&rt, module))
     }
 
     #[test]
@@ -205,9 +199,6 @@ mod tests {
 
     #[test]
     fn trip_leaves_a_fault(rt: HostRuntime) -> Result<(), Fail> {
-        let mut module = prepare().start();
-        let tripped = trip(&rt, &mut module);
-        let _driver = module.end();
-        tripped
+        while_running(prepare(), |module| trip(&rt, module))
     }
 }

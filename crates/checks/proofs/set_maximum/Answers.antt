@@ -1,15 +1,7 @@
-use Rattle.std.proofs.Common.{◌≡◌, ℕ, Ok, ap, ◌∙◌, arith}
+use Rattle.std.proofs.Common.{◌≡◌, ap, ◌∙◌}
 use Rattle.checks.proofs.Sending.{set_bench, set_number}
 use Rattle.checks.specs.Bench.{bench, fresh, maximum_set, prepared}
 use Rattle.checks.proofs.set_maximum.Goals as goal
-
-pub returns-in_err-setting : goal.returns-in_err-setting
-unfolding fresh
-returns-in_err-setting c =
-    let taken : c.setting.result ≡ Ok tt = set_number 35 167 (fresh 0 0) c.args.prepared.now.inner c.setting.new.self.inner c.setting.result c.requires c.setting.ensures.effect in
-    let was = c.in_err-setting.was in
-    let no : ◌≡◌ {A = ℕ} 0 1 = cc in
-    absurd (omega arith)
 
 pub returns : goal.returns
 unfolding fresh maximum_set prepared
