@@ -57,7 +57,7 @@ answers_told : (es : List (Entry Call)) → map second_answer es ≡ map (λ t. 
 answers_told [] = refl
 answers_told (e ∷ es) = ap (λ bs. second_answer e ∷ bs) (answers_told es)
 
-module _ (flags : ℕ) (h : History) {d : PulseDriver} {g : History} {x : Inner StepAxis PulseDriver StepConfig} (made : pulse_meaning d ≡ record { one = new_coil 0; two = new_coil 0 }) (settings : vec_items h.preparation ≡ []) (calls : asked_in h ≡ trip_calls flags) (r : Ran step_rules pulse_meaning Pulsed d h g x) where
+module _ (flags : ℕ) (h : History) {d : PulseDriver} {g : History} {x : Inner StepAxis PulseDriver StepConfig} (made : pulse_meaning d ≡ record { first = new_coil 0; second = new_coil 0 }) (settings : vec_items h.preparation ≡ []) (calls : asked_in h ≡ trip_calls flags) (r : Ran step_rules pulse_meaning Pulsed d h g x) where
   -- how the module stands at the end
   pub run_end : bench x ≡ stands step_rules (fresh 0 0) (trip_calls flags)
   unfolding asked_in fresh

@@ -27,7 +27,7 @@ sent_answer one two orders before bytes x r e ok f =
     sym (take-append-drop 8 bytes) ∙ ap (λ b. b ++ drop 8 bytes) (f.halves First ok) ∙ ap (λ b. (outcome step_kind (bench x).one.own (half First orders)).answer ++ b) (f.halves Second ok)
     ∙ ap (λ os. (outcome step_kind (bench x).one.own (half First os)).answer ++ (outcome step_kind (bench x).two.own (half Second os)).answer) e
 
-pub made_bench : (one two : ℕ) (d : PulseDriver) (x : Inner StepAxis PulseDriver StepConfig) → pulse_meaning d ≡ record { one = new_coil one; two = new_coil two } → Made step_kind pulse_meaning Pulsed d x → bench x ≡ fresh one two
+pub made_bench : (one two : ℕ) (d : PulseDriver) (x : Inner StepAxis PulseDriver StepConfig) → pulse_meaning d ≡ record { first = new_coil one; second = new_coil two } → Made step_kind pulse_meaning Pulsed d x → bench x ≡ fresh one two
 unfolding fresh
 made_bench one two d x e m =
     same_stand (bench x) (first_stand step_kind (pulse_meaning d)) (m.motors First) (m.points First) (m.motors Second) (m.points Second) ∙ ap (first_stand step_kind) e

@@ -17,7 +17,7 @@ use crate::reading::{Quantity, Reading, Sent};
 use coil::{CoilId, OVERCURRENT};
 use drivers::PulseDriver;
 use history::{Call, Entry, History};
-use law::{FunctionModel, compare};
+use law::compare;
 use module::{Closed, Module};
 use refusal::{Refusal, answer_number};
 use std::alloc::{AllocError, Global};
@@ -148,12 +148,9 @@ pub fn trip(heap: Global) -> Result<Vec<Reading>, CheckError>
 {
     let mut one = history(heap, 0)?;
     let mut other = history(heap, OVERCURRENT)?;
-    let model = FunctionModel::StepWords;
-    let (first, second) = compare(
-        model,
+    let (first, second): (Ended, Ended) = compare(
         PulseDriver::new(0, 0),
         &mut one,
-        model,
         PulseDriver::new(0, 0),
         &mut other,
     );
