@@ -20,16 +20,6 @@ mod tests {
         Module::new(PulseDriver::new(0, 0))
     }
 
-    // Starts the module, lets it run, and ends it whatever that gave.
-    fn while_running<T, F: FnOnce(&mut Started) -> T>(prepared: Prepared, run: F) -> T
-        requires { F.IsAlwaysCallable run }
-    {
-        let mut module = prepared.start();
-        let given = run(&mut module);
-        let _driver = module.end();
-        given
-    }
-
     // One cycle with a word for each motor; gives the answer.
     // The checks of a spare keep such a function for themselves, and these tests stand beside them, not on them.
     fn send(module: &mut Started, first: u16, second: u16) -> Result<[u8; 16], Refusal> {
@@ -80,7 +70,9 @@ mod tests {
 
     #[test]
     fn settings_are_refused_while_running(rt: HostRuntime) -> Result<(), Fail> {
-        while_running(prepare(), |module| refuse_while_running(&rt, module))
+        prepare()
+            .while_running(|module| refuse_while_running(&rt, module))
+            .0
     }
 
     fn refuse_cycles(rt: &impl Abort, module: &mut Started) -> Result<(), Fail> {
@@ -113,12 +105,16 @@ mod tests {
 
     #[test]
     fn cycles_are_refused(rt: HostRuntime) -> Result<(), Fail> {
-        while_running(prepare(), |module| refuse_cycles(&rt, module))
+        prepare()
+            .while_running(|module| refuse_cycles(&rt, module))
+            .0
     }
 
     #[test]
     fn motors_and_flags_are_refused(rt: HostRuntime) -> Result<(), Fail> {
-        while_running(prepare(), |module| refuse_motors(&rt, module))
+        prepare()
+            .while_running(|module| refuse_motors(&rt, module))
+            .0
     }
 
     fn share(rt: &impl Abort, module: &mut Started) -> Result<(), Fail> {
@@ -132,7 +128,7 @@ mod tests {
 
     #[test]
     fn supply_is_shared(rt: HostRuntime) -> Result<(), Fail> {
-        while_running(prepare(), |module| share(&rt, module))
+        prepare().while_running(|module| share(&rt, module)).0
     }
 
     // The count of motor 1 after four words of one step each, with this configuration.
@@ -140,7 +136,7 @@ mod tests {
         let mut prepared = prepare();
         let set = prepared.setting(46, configuration);
         let orders = [1, 128, 1, 128, 1, 128, 1, 128, 0, 0, 0, 0, 0, 0, 0, 0];
-        let count = while_running(prepared, |module| {
+        let (count, _driver) = prepared.while_running(|module| {
             module.cycle(&orders, &mut [0; 16])?;
             module.count(1)
         });
@@ -164,7 +160,7 @@ mod tests {
         assert_eq!(rt; count_after_four(0x0810), Ok(32));
         assert_eq!(rt; count_after_four(0x0868), Ok(2));
         assert_eq!(rt; count_after_four(0x0870), Ok(4));
-        while_running(prepare(), |module| wrap(&rt, module))
+        prepare().while_running(|module| wrap(&rt, module)).0
     }
 
     #[test]
@@ -199,6 +195,6 @@ mod tests {
 
     #[test]
     fn trip_leaves_a_fault(rt: HostRuntime) -> Result<(), Fail> {
-        while_running(prepare(), |module| trip(&rt, module))
+        prepare().while_running(|module| trip(&rt, module)).0
     }
 }
