@@ -4,7 +4,8 @@ ghost use Rattle.axis.specs.Levels.{levels, no_levels, with_level, chosen, is_po
 
 use coil::Points;
 
-// Which current a motor chooses, with the number of its code; off is no power.
+// Which current a motor chooses, with the number of its code; off is no power. It is no Option of a setting, since
+// each of the four codes has a number by the rules.
 #[derive(Clone, Copy, PartialEq, Eq, Debug)]
 pub enum Current {
     Off = 0,

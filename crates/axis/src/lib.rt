@@ -53,7 +53,8 @@ pub trait Axis: Drop {
     fn current(&self) -> Current
         ensures { result ≡ kind.current self.now };
 
-    // One cycle: eight bytes of orders, eight of answer, and the coil that this axis drives.
+    // One cycle: eight bytes of orders, eight of answer, and the coil that this axis drives. Driver and coil, orders and
+    // answer are no structs: with a `&mut` in a struct each contract needs a clause on which reference it is.
     fn cycle<D: CoilDriver>(
         &mut self,
         config: Self::Config,

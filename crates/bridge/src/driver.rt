@@ -33,6 +33,8 @@ impl BridgeDriver {
     }
 }
 
+// Passed on call by call: one impl for all drivers that hold a pair would not fit the pulse driver, whose advance and
+// `did` are its own.
 impl CoilDriver for BridgeDriver {
     ghost meaning = { bridge_meaning };
 

@@ -24,7 +24,7 @@ pub use pair::CoilPair;
 pub use per_coil::PerCoil;
 pub use points::{MAX_POINTS, Points};
 
-// Flag bits of a coil.
+// Flag bits of a coil. They stay bits, since reports, answers and faults carry them in one byte.
 pub const STALL: u8 = 1;
 
 pub const OVERTEMPERATURE: u8 = 2;

@@ -29,9 +29,9 @@ impl TryFrom<i32> for Points {
     ghost try_from_gives = { λ value points. option_map (λ p. p.value) (result_ok points) ≡ points_from value };
 
     fn try_from(value: i32) -> Result<Points, OutOfRange> {
-        if value < 0 || value > MAX_POINTS as i32 {
-            return Err(OutOfRange);
+        match u8::try_from(value) {
+            Ok(value) if value <= MAX_POINTS => Ok(Points { value }),
+            _ => Err(OutOfRange),
         }
-        Ok(Points { value: value as u8 })
     }
 }

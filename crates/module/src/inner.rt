@@ -9,6 +9,7 @@ pub struct Configuration<C> {
     pub(crate) model: C,
 }
 
+// The plain struct inside a module, by the rules with one table of both motors: calls are done on it at either stage.
 pub struct Inner<A: Axis, D> {
     pub(crate) configuration: Configuration<A::Config>,
     // motor 1, motor 2

@@ -112,6 +112,7 @@ impl<S: ModuleStage, A: Model, D: CoilDriver> Module<S, A, D> {
     }
 }
 
+// Motors and flags are plain numbers here: they come from outside, and a wrong one is refused by its number.
 impl<S, A: Model, D: CoilDriver> Module<S, A, D> {
     fn at_stage<T>(self) -> Module<T, A, D>
         ensures { result.inner ≡ self.inner }

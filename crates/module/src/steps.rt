@@ -14,7 +14,7 @@ use refusal::Refusal;
 use registers::Model;
 use supply::Supply;
 
-// The place of a motor in the table of two.
+// The place of a motor in the table of two. The table is an array by the rules, and so it is not a PerCoil.
 pub(crate) fn place(coil: CoilId) -> usize
     ensures value { result ≡ place_of coil }
     ensures within { result < 2 }

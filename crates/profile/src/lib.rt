@@ -126,15 +126,10 @@ impl Limits {
             return 0;
         }
         let slowest = self.slowest(size);
-        if distance < 0 {
+        let Ok(room) = u64::try_from(distance) else {
             return slowest;
-        }
-        greatest(
-            slowest,
-            self.fastest(size),
-            self.deceleration,
-            distance as u64,
-        )
+        };
+        greatest(slowest, self.fastest(size), self.deceleration, room)
     }
 }
 

@@ -15,7 +15,7 @@ fn stopping_distance(speed: u16, deceleration: u16) -> u32
 }
 
 // The greatest speed from the slowest to the fastest that stops within the room, in microsteps, or the slowest.
-// Each turn halves what is left, so 16 turns do.
+// Each turn halves what is left, so 16 turns do. The library halves slices, and no range of numbers.
 pub(crate) fn greatest(slowest: u16, fastest: u16, deceleration: u16, room: u64) -> u16
     requires { (1 ≤ deceleration) × (slowest ≤ fastest) }
     ensures { result ≡ greatest_above slowest deceleration (pos room) (fastest - slowest) }

@@ -67,6 +67,7 @@ fn current(motor: CoilId, which: CurrentSetting) -> Register
 impl Model for StepAxis {
     ghost lines = { step_lines };
 
+    // the table of the rules, number by number
     fn register(number: u16) -> Option<Register> {
         let register = match number {
             33 => current(CoilId::First, CurrentSetting::Holding),

@@ -44,6 +44,7 @@ impl Resolution {
         ensures { result.value ≡ steps *ℤ pos (scale self) }
     {
         let steps = i32::from(steps);
+        // four products and no factor, so that each is bounded by a literal
         let value = match self {
             Resolution::Five => steps * 8,
             Resolution::Six => steps * 4,
@@ -62,10 +63,7 @@ impl TryFrom<i32> for StepConfig {
     ghost try_from_gives = { λ value config. config ≡ ok_or (config_from value) (record {}) };
 
     fn try_from(value: i32) -> Result<StepConfig, OutOfRange> {
-        if value < 0 {
-            return Err(OutOfRange);
-        }
-        let bits = value as u32;
+        let bits = u32::try_from(value).map_err(|_| OutOfRange)?;
         let words = bits / 8 % 4;
         let resolution = bits / 32 % 4;
         if bits != 0x0800 + words * 8 + resolution * 32 {

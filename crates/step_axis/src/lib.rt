@@ -70,7 +70,8 @@ fn take_word<D: CoilDriver>(
     Ok(steps)
 }
 
-// Takes words in order until the coil declines one. Tells the signed sum of their steps.
+// Takes words in order until the coil declines one. Tells the signed sum of their steps, which is the loop's invariant
+// by the rules; so this is no fold.
 fn take_words<D: CoilDriver>(
     resolution: Resolution,
     driver: &mut D,

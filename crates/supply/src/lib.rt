@@ -18,7 +18,8 @@ impl Supply {
         Supply
     }
 
-    // What each motor is fed of what both want: motor 1 all, motor 2 at most what is left.
+    // What each motor is fed of what both want: motor 1 all, motor 2 at most what is left. It shares out any bytes, and
+    // Points would take fewer.
     pub fn share(&mut self, first: u8, second: u8) -> (u8, u8)
         ensures value { result ≡ (granted First first second, granted Second first second) }
         ensures same { self.new ≡ self.old }
