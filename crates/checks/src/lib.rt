@@ -7,8 +7,6 @@ ghost use Rattle.checks.specs.Good.{all_readings, full_turn, maximum_current, no
 ghost use Rattle.checks.specs.declared.error.CheckError.TheVariants.{Memory};
 
 use coil::CoilId;
-use drivers::PulseDriver;
-use module::Module;
 use refusal::Refusal;
 
 mod bench;
