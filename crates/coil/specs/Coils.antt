@@ -1,5 +1,6 @@
 -- One value for each of the two coils. Assumes nothing.
 use Rattle.std.specs.Prelude.{◌≡◌, refl}
+use Rattle.std.proofs.Common.{ap, ◌∙◌}
 use Rattle.coil.specs.declared.CoilId.{CoilId}
 use Rattle.coil.specs.declared.CoilId.TheVariants.{First, Second}
 use Rattle.coil.specs.declared.per_coil.PerCoil.{PerCoil}
@@ -13,6 +14,17 @@ at c Second = c.second
 abbrev pub put : {T : Type 0} → PerCoil T → CoilId → T → PerCoil T
 put c First x = record { first = x; second = c.second }
 put c Second x = record { first = c.first; second = x }
+
+-- the values of a function at both coils
+abbrev pub both : {T : Type 0} → (CoilId → T) → PerCoil T
+both f = record { first = f First; second = f Second }
+
+pub at_both : {T : Type 0} (f : CoilId → T) (i : CoilId) → at (both f) i ≡ f i
+at_both f First = refl
+at_both f Second = refl
+
+pub same_at : {T : Type 0} (c e : PerCoil T) → ((i : CoilId) → at c i ≡ at e i) → c ≡ e
+same_at c e same = ap (λ x. record { first = x; second = c.second }) (same First) ∙ ap (λ x. record { first = e.first; second = x }) (same Second)
 
 pub put_same : {T : Type 0} (c : PerCoil T) (i : CoilId) → put c i (at c i) ≡ c
 put_same c First = refl

@@ -68,3 +68,7 @@ pub record Sound (c : Coil) : Type 0 where
 -- a coil as a driver is made: without current and without flags
 abbrev pub new_coil : ℕ → Coil
 new_coil count = record { count = count; points = 0; flags = 0 }
+
+-- the coils of a driver as it is made, with these counts
+abbrev pub new_coils : ℕ → ℕ → Coils
+new_coils one two = record { first = new_coil one; second = new_coil two }
