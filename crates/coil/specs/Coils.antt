@@ -23,8 +23,8 @@ pub at_both : {T : Type 0} (f : CoilId → T) (i : CoilId) → at (both f) i ≡
 at_both f First = refl
 at_both f Second = refl
 
-pub same_at : {T : Type 0} (c e : PerCoil T) → ((i : CoilId) → at c i ≡ at e i) → c ≡ e
-same_at c e same = ap (λ x. record { first = x; second = c.second }) (same First) ∙ ap (λ x. record { first = e.first; second = x }) (same Second)
+pub same_both : {T : Type 0} (f g : CoilId → T) → ((i : CoilId) → f i ≡ g i) → both f ≡ both g
+same_both f g same = ap (λ x. record { first = x; second = f Second }) (same First) ∙ ap (λ x. record { first = g First; second = x }) (same Second)
 
 pub put_same : {T : Type 0} (c : PerCoil T) (i : CoilId) → put c i (at c i) ≡ c
 put_same c First = refl
