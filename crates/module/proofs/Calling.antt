@@ -1,20 +1,20 @@
 -- The whole effect of each call, put together from what its steps do.
-use Rattle.std.proofs.Common.{◌≡◌, ℕ, Bool, true, false, cond, eqb, ltb, ◌⊎◌, List, [], ◌∷◌, ◌++◌, length, ℤ, is_err, Some, None, Ok, Err, Option, ok_or, unwrap_or, sym, refl, ap, ◌∙◌, subst, inl, inr, arith, eqb-true}
+use Rattle.std.proofs.Common.{◌≡◌, ℕ, Bool, true, false, cond, eqb, ltb, ◌⊎◌, List, [], ◌∷◌, ◌++◌, length, ℤ, is_err, Some, None, Ok, Err, Option, ok_or, unwrap_or, sym, refl, ap, ◌∙◌, subst, inl, inr, eqb-true}
 use Rattle.axis.specs.Kinds.{Kind}
 use Rattle.axis.specs.declared.currents.CurrentSetting.{CurrentSetting}
 use Rattle.coil.proofs.Chained.{chain_join}
 use Rattle.coil.specs.Chains.{Chain, Did, on}
-use Rattle.coil.specs.Numbers.{coil_numbered}
+use Rattle.coil.specs.Numbers.{by_number, coil_numbered, number}
 use Rattle.coil.specs.declared.error.UnknownCoil.{UnknownCoil}
 use Rattle.coil.specs.Coils.{at, at_put, at_put_other, put}
 use Rattle.coil.specs.Meaning.{Coil, Coils, acknowledged, noted, reported, tripped}
 use Rattle.coil.specs.declared.CoilCall.TheVariants.{Clear, Note}
 use Rattle.coil.specs.declared.CoilId.{CoilId}
 use Rattle.coil.specs.declared.CoilId.TheVariants.{First, Second}
-use Rattle.module.proofs.Setting.{either_way}
+use Rattle.module.proofs.Setting.{either_way, no_refusal}
 use Rattle.module.proofs.Turns.{same_share}
 use Rattle.module.specs.Called.{Adjusted, Called, Filled, Moved, Shared}
-use Rattle.module.specs.Effects.{Answer, Asked, Deed, acknowledgement, acknowledges, addressee, after, answer, adjusted, calls, concerns, configured, cycle, cycle_calls, cycle_deed, deed, feeds, flags_answer, in_range, half, length_answer, lives, misses, motor_deed, move_calls, moved_share, moves, note_calls, number, points_after, report, reports, set_deed, set_motor, set_share, sets, setting, setting_answer, value_answer, with_config, with_currents}
+use Rattle.module.specs.Effects.{Answer, Asked, Deed, acknowledgement, acknowledges, addressee, after, answer, adjusted, calls, concerns, configured, cycle, cycle_calls, cycle_deed, deed, feeds, flags_answer, in_range, half, length_answer, lives, misses, motor_deed, move_calls, moved_share, moves, note_calls, points_after, report, reports, set_deed, set_motor, set_share, sets, setting, setting_answer, value_answer, with_config, with_currents}
 use Rattle.module.specs.Share.{Rules, Share, motor_at, powered, share, share_of, wanted}
 use Rattle.module.specs.declared.inner.Inner.{Inner}
 use Rattle.refusal.specs.declared.Refusal.{Refusal}
@@ -33,15 +33,12 @@ with_driver x d = record { configuration = x.configuration; motors = x.motors; c
 abbrev with_flags : {C A : Type 0} → Share C A → ℕ → Share C A
 with_flags h f = record { config = h.config; axis = h.axis; currents = h.currents; fault = h.fault; cycles = h.cycles; count = h.count; flags = f }
 
-pub no_refusal : {X : Type 0} → is_err {T = Unit {0}} {E = Refusal} (Ok tt) ≡ true → X
-no_refusal e = let n : ◌≡◌ {A = ℕ} 0 1 = ap (λ t. cond t 1 0) e in absurd (omega arith)
-
 -- reports and acknowledgements, on the motor of a number
 
 either : (i j : CoilId) → (i ≡ j) ⊎ (i ≡ j → ⊥)
 either First First = inl refl
-either First Second = inr (λ q. let n : ◌≡◌ {A = ℕ} 1 2 = ap number q in absurd (omega arith))
-either Second First = inr (λ q. let n : ◌≡◌ {A = ℕ} 2 1 = ap number q in absurd (omega arith))
+either First Second = inr (λ q. cc)
+either Second First = inr (λ q. cc)
 either Second Second = inl refl
 
 pub motor_is : (n : ℕ) (i : CoilId) (u : UnknownCoil) → ok_or (coil_numbered n) u ≡ Ok i → n ≡ number i
@@ -50,14 +47,14 @@ motor_is n i u e = by (eqb n 1) (eqb n 2) refl refl e
     by : (a b : Bool) → eqb n 1 ≡ a → eqb n 2 ≡ b → ok_or (cond a (Some First) (cond b (Some Second) None)) u ≡ Ok i → n ≡ number i
     by true b p q e = let same : First ≡ i = cc in eqb-true n 1 p ∙ ap number same
     by false true p q e = let same : Second ≡ i = cc in eqb-true n 2 q ∙ ap number same
-    by false false p q e = let z : ◌≡◌ {A = ℕ} 0 1 = cc in absurd (omega arith)
+    by false false p q e = cc
 
 pub no_motor : (n : ℕ) (u v : UnknownCoil) → ok_or (coil_numbered n) u ≡ Err v → (eqb n 1 ≡ false) × (eqb n 2 ≡ false)
 no_motor n u v e = by (eqb n 1) (eqb n 2) refl refl e
   where
     by : (a b : Bool) → eqb n 1 ≡ a → eqb n 2 ≡ b → ok_or (cond a (Some First) (cond b (Some Second) None)) u ≡ Err v → (eqb n 1 ≡ false) × (eqb n 2 ≡ false)
-    by true b p q e = let z : ◌≡◌ {A = ℕ} 0 1 = cc in absurd (omega arith)
-    by false true p q e = let z : ◌≡◌ {A = ℕ} 0 1 = cc in absurd (omega arith)
+    by true b p q e = cc
+    by false true p q e = cc
     by false false p q e = (p, q)
 
 own_deed : (i : CoilId) (d : Deed) → motor_deed i (number i) d ≡ Some d
@@ -70,7 +67,7 @@ other_deed First Second d ne = refl
 other_deed Second First d ne = refl
 other_deed Second Second d ne = absurd (ne refl)
 
-for_motor : {X : Type 0} (i : CoilId) (f : CoilId → X) (z : X) → cond (eqb (number i) 1) (f First) (cond (eqb (number i) 2) (f Second) z) ≡ f i
+for_motor : {X : Type 0} (i : CoilId) (f : CoilId → X) (z : X) → by_number (number i) f z ≡ f i
 for_motor First f z = refl
 for_motor Second f z = refl
 
@@ -145,16 +142,16 @@ none_for : (n : ℕ) (i : CoilId) (d : Deed) → eqb n 1 ≡ false → eqb n 2 �
 none_for n First d p q = ap (λ t. cond t (Some d) None) p
 none_for n Second d p q = ap (λ t. cond t (Some d) None) q
 
-neither : {X : Type 0} (n : ℕ) (x y z : X) → eqb n 1 ≡ false → eqb n 2 ≡ false → cond (eqb n 1) x (cond (eqb n 2) y z) ≡ z
-neither n x y z p q = ap (λ t. cond t x (cond (eqb n 2) y z)) p ∙ ap (λ t. cond t y z) q
+neither : {X : Type 0} (n : ℕ) (f : CoilId → X) (z : X) → eqb n 1 ≡ false → eqb n 2 ≡ false → by_number n f z ≡ z
+neither n f z p q = ap (λ t. cond t (f First) (cond (eqb n 2) (f Second) z)) p ∙ ap (λ t. cond t (f Second) z) q
 
 pub report_nobody : {C A D : Type 0} (k : Rules C A) (meaning : D → Coils) (did : Did D) (n f : ℕ) (x : Inner A D C) (r : Answer) → r ≡ Err UnknownMotor → eqb n 1 ≡ false → eqb n 2 ≡ false → Called k meaning did Running (report n f) x x r
-report_nobody k meaning did n f x r e p q = untouched k meaning did Running (report n f) x r (e ∙ sym (neither n (flags_answer f) (flags_answer f) (Err UnknownMotor) p q))
-    (λ i. ap (lives k i (share k.kind meaning x i)) (none_for n i (reports f) p q)) (λ i c w v. ap (points_after i c w v) (none_for n i (reports f) p q)) (neither n (note_calls First f) (note_calls Second f) [] p q)
+report_nobody k meaning did n f x r e p q = untouched k meaning did Running (report n f) x r (e ∙ sym (neither n (λ _. flags_answer f) (Err UnknownMotor) p q))
+    (λ i. ap (lives k i (share k.kind meaning x i)) (none_for n i (reports f) p q)) (λ i c w v. ap (points_after i c w v) (none_for n i (reports f) p q)) (neither n (λ i. note_calls i f) [] p q)
 
 pub acknowledge_nobody : {C A D : Type 0} (k : Rules C A) (meaning : D → Coils) (did : Did D) (n : ℕ) (x : Inner A D C) (r : Answer) → r ≡ Err UnknownMotor → eqb n 1 ≡ false → eqb n 2 ≡ false → Called k meaning did Running (acknowledgement n) x x r
-acknowledge_nobody k meaning did n x r e p q = untouched k meaning did Running (acknowledgement n) x r (e ∙ sym (neither n (Ok tt) (Ok tt) (Err UnknownMotor) p q))
-    (λ i. ap (lives k i (share k.kind meaning x i)) (none_for n i acknowledges p q)) (λ i c w v. ap (points_after i c w v) (none_for n i acknowledges p q)) (neither n (on First Clear ∷ []) (on Second Clear ∷ []) [] p q)
+acknowledge_nobody k meaning did n x r e p q = untouched k meaning did Running (acknowledgement n) x r (e ∙ sym (neither n (λ _. Ok tt) (Err UnknownMotor) p q))
+    (λ i. ap (lives k i (share k.kind meaning x i)) (none_for n i acknowledges p q)) (λ i c w v. ap (points_after i c w v) (none_for n i acknowledges p q)) (neither n (λ i. on i Clear ∷ []) [] p q)
 
 -- flags that there are not
 pub report_flags : {C A D : Type 0} (k : Rules C A) (meaning : D → Coils) (did : Did D) (i : CoilId) (n f : ℕ) (x : Inner A D C) → n ≡ number i → ltb f 16 ≡ false → Called k meaning did Running (report n f) x x (Err UnknownFlags)
@@ -205,7 +202,7 @@ pub filled : {C A D : Type 0} (k : Rules C A) (meaning : D → Coils) (did : Did
 filled k meaning did x y orders before bytes m = record { halves = λ i _. m.halves i; untouched = no_refusal }
 
 pub not_filled : {C A D : Type 0} (k : Rules C A) (meaning : D → Coils) (x : Inner A D C) (orders before bytes : List ℕ) (e : Refusal) → bytes ≡ before → Filled k meaning x orders before bytes (Err e)
-not_filled k meaning x orders before bytes e same = record { halves = λ i h. let n : ◌≡◌ {A = ℕ} 0 1 = ap (λ t. cond t 1 0) h in absurd (omega arith); untouched = λ _. same }
+not_filled k meaning x orders before bytes e same = record { halves = λ i h. cc; untouched = λ _. same }
 
 -- a cycle of other lengths: each motor misses it
 missed : {C A D : Type 0} (k : Rules C A) (meaning : D → Coils) (did : Did D) (x : Inner A D C) (orders : List ℕ) (room : ℕ) (e : Refusal) → Err e ≡ length_answer (length orders) room →

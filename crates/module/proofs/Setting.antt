@@ -1,5 +1,5 @@
 -- Settings: what each answer of the gate leaves.
-use Rattle.std.proofs.Common.{◌≡◌, ℕ, ◌<◌, Bool, true, false, cond, length, get_or, set, ℤ, is_err, Some, None, Ok, Err, sym, refl, ap, ◌∙◌, arith}
+use Rattle.std.proofs.Common.{◌≡◌, ℕ, ◌<◌, Bool, true, false, cond, length, get_or, set, ℤ, is_err, Some, None, Ok, Err, sym, refl, ap, ◌∙◌}
 use Rattle.axis.specs.Kinds.{Kind}
 use Rattle.axis.specs.Levels.{levels, with_level}
 use Rattle.axis.specs.declared.currents.CurrentSetting.{CurrentSetting}
@@ -39,8 +39,8 @@ out_of_range k meaning i which v x r n e = record {
   refused = λ _. refl;
 }
 
-is_refused : {b : Bool} → b ≡ false → b ≡ true → {X : Type 0} → X
-is_refused {b} e h {X} = let n : ◌≡◌ {A = ℕ} 0 1 = ap (λ t. cond t 1 0) (sym e ∙ h) in absurd (omega arith)
+pub no_refusal : {X : Type 0} → is_err {T = Unit {0}} {E = Refusal} (Ok tt) ≡ true → X
+no_refusal e = cc
 
 pub still_powered : {C A D : Type 0} (k : Kind C A) (meaning : D → Coils) (i : CoilId) (which : CurrentSetting) (v : ℤ) (n : ℕ) (x : Inner A D C) → points_from v ≡ Some n → powered k (share k meaning x i) ≡ true → Adjusted k meaning i which v x x (Err MotorPowered)
 still_powered k meaning i which v n x e p = record {
@@ -72,12 +72,12 @@ set_current {C} {A} {D} k meaning i which v n p x m d e b pe h axis currents fau
       number = ap (λ t. cond t (Err MotorPowered) (Ok tt)) (sym b) ∙ ap (λ o. in_range o (cond (powered k (share k meaning x i)) (Err MotorPowered) (Ok tt))) (sym e);
       motors = λ j. by i j y own other;
       driver = refl;
-      refused = λ z. is_refused {b = is_err {T = Unit {0}} {E = Refusal} (Ok tt)} refl z;
+      refused = no_refusal;
     }
   where
     by : (i j : CoilId) (y : Inner A D C) → share k meaning y i ≡ with_currents (share k meaning x i) (adjusted (Current i which) (powered k (share k meaning x i)) (share k meaning x i).currents v) →
         ((j : CoilId) → (i ≡ j → ⊥) → share k meaning y j ≡ share k meaning x j) → share k meaning y j ≡ adjusted_share k (Current i which) j (share k meaning x j) v
     by First First y own other = own
-    by First Second y own other = other Second (λ q. let n : ◌≡◌ {A = ℕ} 0 1 = ap place q in absurd (omega arith))
-    by Second First y own other = other First (λ q. let n : ◌≡◌ {A = ℕ} 1 0 = ap place q in absurd (omega arith))
+    by First Second y own other = other Second (λ q. cc)
+    by Second First y own other = other First (λ q. cc)
     by Second Second y own other = own

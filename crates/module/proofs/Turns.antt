@@ -88,8 +88,8 @@ both_moved : {C A D : Type 0} (k : Kind C A) (meaning : D → Coils) (did : Did 
     Turn k meaning did First (numbered x) y (half First orders) a → Turn k meaning did Second y z (half Second orders) b → half First bytes ≡ a → half Second bytes ≡ b →
     Moved k meaning did x z orders bytes
 both_moved {C} {A} {D} k meaning did x y z orders a b bytes law t u e f =
-    let apart : First ≡ Second → ⊥ = λ q. let n : ◌≡◌ {A = ℕ} 0 1 = ap place q in absurd (omega arith) in
-    let apart' : Second ≡ First → ⊥ = λ q. apart (sym q) in
+    let apart : First ≡ Second → ⊥ = λ q. cc in
+    let apart' : Second ≡ First → ⊥ = λ q. cc in
     let still : share k meaning y Second ≡ share k meaning (numbered x) Second = other_share k meaning did First Second (numbered x) y (half First orders) a t apart in
     let one : share k meaning z First ≡ moved_share k First (share k meaning x First) (half First orders) =
     other_share k meaning did Second First y z (half Second orders) b u apart' ∙ own_share k meaning did First (numbered x) y (half First orders) a t in
