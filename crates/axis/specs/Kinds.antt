@@ -1,10 +1,11 @@
 -- What a kind of axis is, and what one cycle of it is. Assumes nothing.
-use Rattle.std.specs.Prelude.{◌≡◌, ℕ, List, map, ℤ, Option, Result}
+use Rattle.std.specs.Prelude.{◌≡◌, ℕ, true, List, map, ℤ, Option, Result}
 use Rattle.axis.specs.declared.currents.Current.{Current}
+use Rattle.axis.specs.declared.currents.Current.TheVariants.{Off}
 use Rattle.axis.specs.declared.AxisFault.{AxisFault}
 use Rattle.coil.specs.Chains.{Chain, Did, on}
 use Rattle.coil.specs.Coils.{at, put}
-use Rattle.coil.specs.Meaning.{Coil, Coils}
+use Rattle.coil.specs.Meaning.{Coil, Coils, tripped}
 use Rattle.coil.specs.declared.CoilCall.{CoilCall}
 use Rattle.coil.specs.declared.CoilId.{CoilId}
 
@@ -38,6 +39,10 @@ pub record Kind (C A : Type 0) : Type 0 where
   pub current : A → Current
   -- one cycle, over eight bytes of orders
   pub cycle : C → A → Seen → List ℕ → Outcome A
+
+-- after a cycle an axis on a tripped coil chooses no current
+abbrev pub Rests : {C A : Type 0} → Kind C A → Type 0
+Rests {C} {A} k = (config : C) (x : A) (s : Seen) (orders : List ℕ) → tripped (k.cycle config x s orders).flags ≡ true → k.current (k.cycle config x s orders).axis ≡ Off
 
 -- the coil after a cycle
 abbrev pub moved : {A : Type 0} → Coil → Outcome A → Coil

@@ -1,7 +1,7 @@
 -- A history as lists: what was asked, and what was told. Assumes nothing.
 use Rattle.std.specs.Prelude.{◌≡◌, ℕ, true, List, [], ◌++◌, map, is_err, Some, None, Ok, Err, vec_items, vec_len, Option}
+use Rattle.coil.specs.Coils.{both}
 use Rattle.coil.specs.declared.CoilId.{CoilId}
-use Rattle.coil.specs.declared.CoilId.TheVariants.{First, Second}
 use Rattle.history.specs.Stands.{Query, Told}
 use Rattle.history.specs.declared.Call.{Call}
 use Rattle.history.specs.declared.Call.TheVariants as calls
@@ -57,7 +57,7 @@ query k c = record { stage = k.stage; asked = k.asked c }
 abbrev pub event : {C : Type 0} → CallKind C → Entry C → Event
 event k e = record {
   query = query k e.call;
-  told = record { number = e.ended; one = k.got First e.call e.ended; two = k.got Second e.call e.ended };
+  told = record { number = e.ended; halves = both (λ i. k.got i e.call e.ended) };
   buffer = k.buffer e.call;
 }
 

@@ -1,8 +1,7 @@
 -- Both motors move, one after the other: neither shows in the other's share.
-use Rattle.std.proofs.Common.{◌≡◌, ℕ, true, List, ◌++◌, length, set, Option, sym, refl, ap, ◌∙◌, subst, arith, get_or-set_other}
-use Rattle.axis.specs.Kinds.{Kind, Outcome, Seen, moved}
+use Rattle.std.proofs.Common.{◌≡◌, ℕ, List, ◌++◌, length, set, Option, sym, refl, ap, ◌∙◌, subst, arith, get_or-set_other}
+use Rattle.axis.specs.Kinds.{Kind, Outcome, Rests, moved}
 use Rattle.axis.specs.Levels.{Levels, levels}
-use Rattle.axis.specs.declared.currents.Current.TheVariants.{Off}
 use Rattle.coil.proofs.Chained.{chain_join}
 use Rattle.coil.specs.Chains.{Did}
 use Rattle.coil.specs.Coils.{at, at_put, at_put_other, put}
@@ -76,9 +75,6 @@ points_turn k meaning did i j x y orders bytes t = ap (λ (m : Coils). (at m j).
 -- a module whose next cycle has its number
 abbrev pub numbered : {C A D : Type 0} → Inner A D C → Inner A D C
 numbered x = record { configuration = x.configuration; motors = x.motors; cycles = next_cycle x.cycles; supply = x.supply; driver = x.driver }
-
-abbrev Rests : {C A : Type 0} → Kind C A → Type 0
-Rests {C} {A} k = (config : C) (x : A) (s : Seen) (orders : List ℕ) → tripped (k.cycle config x s orders).flags ≡ true → k.current (k.cycle config x s orders).axis ≡ Off
 
 rested_share : {C A D : Type 0} (k : Kind C A) (meaning : D → Coils) (i : CoilId) (h : Share C A) (y : Inner A D C) (orders : List ℕ) → Rests k → share k meaning y i ≡ moved_share k i h orders → Rested k meaning y i
 rested_share k meaning i h y orders law e t =
