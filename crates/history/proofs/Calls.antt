@@ -7,7 +7,7 @@ use Rattle.coil.specs.declared.CoilId.{CoilId}
 use Rattle.coil.specs.declared.CoilId.TheVariants.{First, Second}
 use Rattle.history.specs.Lists.{half_told}
 use Rattle.history.specs.Ran.{Once}
-use Rattle.history.specs.Stands.{Query, Stand, Standing, coil, given, share_after, stand, stand_after, standing_after, wanted_after}
+use Rattle.history.specs.Stands.{Query, Stand, Standing, coil, given, share_after, stand, stand_after, standing, standing_after, wanted_after}
 use Rattle.module.specs.Called.{Called, Filled}
 use Rattle.module.specs.Effects.{Answer, Asked, answer, cycle, deed, half, length_answer, outcome, points_after, setting}
 use Rattle.module.specs.Share.{Rules, Share, share, wanted}
@@ -25,9 +25,8 @@ pub called_stand : {C A D : Type 0} (k : Rules C A) (meaning : D → Coils) (did
 called_stand {C} {A} {D} k meaning did stage a x y r c =
     let s : Stand C A = stand k.kind meaning x in
     let q : Query = record { stage = stage; asked = a } in
-    let standing : CoilId → Standing C A = λ i. record { own = share k.kind meaning y i; points = (at (meaning y.driver) i).points } in
-    let here : (i : CoilId) → record { own = share k.kind meaning x i; points = (at (meaning x.driver) i).points } ≡ at s i = λ i. sym (at_both (λ j. record { own = share k.kind meaning x j; points = (at (meaning x.driver) j).points }) i) in
-    same_stand standing (standing_after k s q)
+    let here : (i : CoilId) → standing k.kind meaning x i ≡ at s i = λ i. sym (at_both (standing k.kind meaning x) i) in
+    same_stand (standing k.kind meaning y) (standing_after k s q)
     (λ i. c.motors i ∙ ap (λ m. share_after k i m q) (here i))
     (λ i. c.points i
     ∙ ap (λ h. points_after i (at (meaning x.driver) i) (wanted k.kind h) (wanted k.kind (share k.kind meaning y Second)) (deed k.lines stage i a)) (c.motors First)

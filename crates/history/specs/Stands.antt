@@ -25,9 +25,12 @@ Stand C A = PerCoil (Standing C A)
 abbrev pub coil : {C A : Type 0} → Standing C A → Coil
 coil m = record { count = m.own.count; points = m.points; flags = m.own.flags }
 
--- a module as it is made over a driver
+-- a module as it is made over a driver: the motor i, and both motors
+abbrev pub first_standing : {C A : Type 0} → Kind C A → Coils → CoilId → Standing C A
+first_standing k c i = record { own = born k (at c i); points = 0 }
+
 abbrev pub first_stand : {C A : Type 0} → Kind C A → Coils → Stand C A
-first_stand k c = both (λ i. record { own = born k (at c i); points = 0 })
+first_stand k c = both (first_standing k c)
 
 -- what is asked, and at which stage
 pub record Query : Type 0 where
@@ -79,6 +82,9 @@ abbrev pub drives : {C A : Type 0} → Rules C A → Stand C A → List Query �
 drives k s [] = []
 drives k s (q ∷ qs) = calls k s.first.own s.second.own q.asked ++ drives k (stand_after k s q) qs
 
--- how a module stands
+-- how a module stands: the motor i, and both motors
+abbrev pub standing : {C A D : Type 0} → Kind C A → (D → Coils) → Inner A D C → CoilId → Standing C A
+standing k meaning x i = record { own = share k meaning x i; points = (at (meaning x.driver) i).points }
+
 abbrev pub stand : {C A D : Type 0} → Kind C A → (D → Coils) → Inner A D C → Stand C A
-stand k meaning x = both (λ i. record { own = share k meaning x i; points = (at (meaning x.driver) i).points })
+stand k meaning x = both (standing k meaning x)

@@ -1,16 +1,15 @@
 -- The law, from what running a history promises.
-use Rattle.std.proofs.Common.{◌≡◌, ◌^◌, ◌≤◌, min, Bool, true, List, ◌∷◌, ◌++◌, pos, ◌+ℤ◌, Some, None, Option, sym, refl, ap, ◌∙◌, subst, arith}
+use Rattle.std.proofs.Common.{◌≡◌, ◌^◌, ◌≤◌, min, true, List, ◌∷◌, ◌++◌, pos, ◌+ℤ◌, Some, None, Option, sym, refl, ap, ◌∙◌, subst, arith}
 use Rattle.axis.specs.Kinds.{Kind}
 use Rattle.axis.specs.Levels.{chosen, no_levels}
 use Rattle.coil.specs.Chains.{Did}
-use Rattle.coil.specs.Coils.{at}
+use Rattle.coil.specs.Coils.{at, at_both}
 use Rattle.coil.specs.Meaning.{Coil, Coils, Sound}
 use Rattle.coil.specs.Modulo.{modulo}
 use Rattle.coil.specs.declared.CoilId.{CoilId}
-use Rattle.coil.specs.declared.CoilId.TheVariants.{First, Second}
 use Rattle.history.specs.Lists.{Event, events, operation, preparation, queries, running}
 use Rattle.history.specs.Ran.{Ran}
-use Rattle.history.specs.Stands.{Query, Stand, first_stand, motor, stand, stands, tells}
+use Rattle.history.specs.Stands.{Query, Stand, first_stand, first_standing, stand, standing, stands, tells}
 use Rattle.history.specs.declared.History.{History}
 use Rattle.law.proofs.Counts.{counts}
 use Rattle.law.proofs.Heard.{heard_tells, own_stands, replies_start}
@@ -47,26 +46,14 @@ called_queries : (o : Option (List Event)) → queries (operation o) ≡ called 
 called_queries None = refl
 called_queries (Some vs) = refl
 
-motor_first : {C A : Type 0} (kind : Kind C A) (i : CoilId) (c : Coils) → (motor (first_stand kind c) i).own ≡ born kind (at c i)
-motor_first kind First c = refl
-motor_first kind Second c = refl
-
-first_fine : {C A : Type 0} (kind : Kind C A) → Lawful kind → (c : Coils) → AllFine kind (first_stand kind c) true true
-first_fine kind law c = record { one = fine First; two = fine Second; together = omega arith }
+first_fine : {C A : Type 0} (kind : Kind C A) → Lawful kind → (c : Coils) → AllFine kind (first_stand kind c) (λ _. true)
+first_fine kind law c = record { each = λ i. subst (λ m. Fine kind m true) (sym (at_both (first_standing kind c) i)) (fine i); together = omega arith }
   where
     none : (i : CoilId) → wanted kind (born kind (at c i)) ≡ 0
     none i = ap (λ z. chosen z no_levels) law.starts
 
-    fine : (i : CoilId) → Fine kind (record { own = born kind (at c i); points = 0 }) true
+    fine : (i : CoilId) → Fine kind (first_standing kind c i) true
     fine i = record { sane = record { holding = omega arith; nominal = omega arith; maximum = omega arith }; enough = λ _. omega (arith, none i); rests = λ _ _. none i }
-
-shares : {C A D : Type 0} (kind : Kind C A) (i : CoilId) (meaning : D → Coils) (x : Inner A D C) → share kind meaning x i ≡ (motor (stand kind meaning x) i).own
-shares kind First meaning x = refl
-shares kind Second meaning x = refl
-
-fed : {C A D : Type 0} (kind : Kind C A) (i : CoilId) (meaning : D → Coils) (x : Inner A D C) (calm : CoilId → Bool) → AllFine kind (stand kind meaning x) (calm First) (calm Second) → calm i ≡ true → min 100 (wanted kind (share kind meaning x i)) ≤ (at (meaning x.driver) i).points
-fed kind First meaning x calm f e = f.one.enough e
-fed kind Second meaning x calm f e = f.two.enough e
 
 -- a run by a kind of axis of the function model m keeps the law
 pub kept : {C A D : Type 0} {kind : Kind C A} {lines : List Line} {meaning : D → Coils} {did : Did D} {d : D} {h g : History} {x : Inner A D C} (m : FunctionModel) → Lawful kind → Runs m kind lines →
@@ -81,24 +68,24 @@ kept {C} {A} {D} {kind} {lines} {meaning} {did} {d} {h} {g} {x} m law runs sound
     let all : queries (events h) ≡ qs = map-append (λ v. v.query) (preparation h) (operation (running h)) ∙ ap (λ z. r.settings ++ z) (called_queries (running h)) in
     let last : stand kind meaning x ≡ stands k s qs = done.after ∙ ap (stands k s) all in
     let parts : (i : CoilId) → deeds_of table i qs ≡ deeds_of table i r.settings ++ deeds_of table i (called r.calls) = λ i. filter_map-append (λ q. deed table q.stage i q.asked) r.settings (called r.calls) in
-    let own : (i : CoilId) → (motor (stands k s qs) i).own ≡ ending k i (born kind (at (meaning d) i)) (deeds r i) =
-    λ i. own_stands k i s qs ∙ ap (λ z. ending k i z (deeds_of table i qs)) (motor_first kind i (meaning d)) ∙ ap (ending k i (born kind (at (meaning d) i))) (parts i)
+    let own : (i : CoilId) → (at (stands k s qs) i).own ≡ ending k i (born kind (at (meaning d) i)) (deeds r i) =
+    λ i. own_stands k i s qs ∙ ap (λ z. ending k i z.own (deeds_of table i qs)) (at_both (first_standing kind (meaning d)) i) ∙ ap (ending k i (born kind (at (meaning d) i))) (parts i)
     ∙ sym (begun (after k i) (born kind (at (meaning d) i)) (λ z. refl) table i (deeds_of table i r.settings) r.calls) in
     let mine : (i : CoilId) → share kind meaning x i ≡ ending k i (born kind (at (meaning d) i)) (deeds r i) =
-    λ i. shares kind i meaning x ∙ ap (λ t. (motor t i).own) last ∙ own i in
-    let fine : AllFine kind (stand kind meaning x) (quiet true (deeds_of table First qs)) (quiet true (deeds_of table Second qs)) =
-    subst (λ t. AllFine kind t (quiet true (deeds_of table First qs)) (quiet true (deeds_of table Second qs))) (sym last) (all_fine k s true true qs law (first_fine kind law (meaning d))) in
+    λ i. sym (ap (λ m. m.own) (at_both (standing kind meaning x) i)) ∙ ap (λ (t : Stand C A). (at t i).own) last ∙ own i in
+    let fine : AllFine kind (stand kind meaning x) (λ i. quiet true (deeds_of table i qs)) =
+    subst (λ t. AllFine kind t (λ i. quiet true (deeds_of table i qs))) (sym last) (all_fine k s (λ _. true) qs law (first_fine kind law (meaning d))) in
     let calm : (i : CoilId) → quiet true (deeds_of table i qs) ≡ quiet true (deeds r i) =
     λ i. ap (quiet true) (parts i) ∙ sym (begun quiet_after true (λ z. refl) table i (deeds_of table i r.settings) r.calls) in
     let told : (i : CoilId) → heard table i qs r.told ≡ replies k i (born kind (at (meaning d) i)) (deeds r i) =
-    λ i. ap (heard table i qs) (done.answers ∙ ap (tells k s) all) ∙ heard_tells k i s qs ∙ ap (λ z. replies k i z (deeds_of table i qs)) (motor_first kind i (meaning d))
+    λ i. ap (heard table i qs) (done.answers ∙ ap (tells k s) all) ∙ heard_tells k i s qs ∙ ap (λ z. replies k i z.own (deeds_of table i qs)) (at_both (first_standing kind (meaning d)) i)
     ∙ ap (replies k i (born kind (at (meaning d) i))) (parts i) ∙ sym (replies_begun k i (born kind (at (meaning d) i)) (deeds_of table i r.settings) r.calls) in
     let shows : ShowsWhatWasDone r = λ i. cc (told i, ap (λ z. z.fault) (mine i), ap (λ z. z.count) (mine i), ap (λ z. z.flags) (mine i), runs.shows i (at (meaning d) i) (deeds r i)) in
     record {
       shows = shows;
       supply = record {
         together = fine.together;
-        enough = λ i q. subst (λ w. min 100 w ≤ (at r.last i).points) (ap (wanted kind) (mine i) ∙ runs.wants i (at (meaning d) i) (deeds r i)) (fed kind i meaning x (λ j. quiet true (deeds_of table j qs)) fine (calm i ∙ q));
+        enough = λ i q. subst (λ w. min 100 w ≤ (at r.last i).points) (ap (wanted kind) (mine i) ∙ runs.wants i (at (meaning d) i) (deeds r i)) (subst (λ m. min 100 (wanted kind m.own) ≤ m.points) (at_both (standing kind meaning x) i) ((fine.each i).enough (calm i ∙ q)));
       };
       counts = λ is i.
           ap (λ z. z.count) (shows i)

@@ -1,8 +1,9 @@
 -- The supply holds after any list of calls.
 use Rattle.std.proofs.Common.{◌≡◌, ℕ, ◌+◌, ◌≤◌, min, Bool, true, false, cond, eqb, ltb, leb, List, [], ◌∷◌, length, ℤ, pos, negsuc, Some, None, Option, sym, refl, ap, ◌∙◌, subst, arith, ltb-true, leb-true}
-use Rattle.axis.specs.Kinds.{Kind, Seen}
+use Rattle.axis.specs.Kinds.{Kind, Rests}
 use Rattle.axis.specs.Levels.{Levels, chosen, is_powered, with_level}
-use Rattle.coil.specs.Numbers.{points_from}
+use Rattle.coil.specs.Coils.{at}
+use Rattle.coil.specs.Numbers.{number, points_from}
 use Rattle.axis.specs.declared.currents.Current.{Current}
 use Rattle.axis.specs.declared.currents.Current.TheVariants.{Off, Holding, Nominal, Maximum}
 use Rattle.axis.specs.declared.currents.CurrentSetting.{CurrentSetting}
@@ -11,9 +12,9 @@ use Rattle.coil.proofs.Flags.{clear_tripped, report_tripped}
 use Rattle.coil.specs.Meaning.{Coil, noted, tripped}
 use Rattle.coil.specs.declared.CoilId.{CoilId}
 use Rattle.coil.specs.declared.CoilId.TheVariants.{First, Second}
-use Rattle.history.specs.Stands.{Query, Stand, Standing, coil, share_after, stand_after, stands}
+use Rattle.history.specs.Stands.{Query, Stand, Standing, coil, share_after, stand_after, stands, wanted_after}
 use Rattle.law.specs.Deeds.{deeds_of, quiet, quiet_after}
-use Rattle.module.specs.Effects.{Asked, Deed, acknowledgement, acknowledges, adjusted, after, concerns, currents_after, cycle, deed, half, lives, misses, motor_deed, moves, number, points_after, report, reports, set_deed, sets, setting, starts, with_points}
+use Rattle.module.specs.Effects.{Asked, Deed, acknowledgement, acknowledges, adjusted, after, concerns, currents_after, cycle, deed, half, lives, misses, motor_deed, moves, points_after, report, reports, set_deed, sets, setting, starts, with_points}
 use Rattle.module.specs.Share.{Rules, Share, powered, wanted}
 use Rattle.registers.specs.Tables.{Line, is_open, look_up}
 use Rattle.registers.specs.declared.Register.{Register}
@@ -93,7 +94,7 @@ pub record Fine {C A : Type 0} (k : Kind C A) (m : Standing C A) (b : Bool) : Ty
 -- what holds of every kind of axis
 pub record Lawful {C A : Type 0} (k : Kind C A) : Type 0 where
   pub starts : k.current k.fresh ≡ Off
-  pub rests : (config : C) (x : A) (s : Seen) (orders : List ℕ) → tripped (k.cycle config x s orders).flags ≡ true → k.current (k.cycle config x s orders).axis ≡ Off
+  pub rests : Rests k
 
 fine_report : {C A : Type 0} (k : Rules C A) (i : CoilId) (m : Standing C A) (b : Bool) (f w v : ℕ) → Fine k.kind m b → (t u x : Bool) → ltb f 16 ≡ t → tripped f ≡ u → tripped (noted m.own.flags f) ≡ x →
     Fine k.kind (record { own = after k i m.own (reports f); points = points_after i (coil m) w v (Some (reports f)) }) (quiet_after b (reports f))
@@ -199,26 +200,23 @@ together_after lines stage (acknowledgement n) c e w v h g = omega (arith, less_
 grants : (w v : ℕ) → w ≤ 167 → v ≤ 167 → (min 100 w ≤ granted First w v) × (min 100 v ≤ granted Second w v) × (granted First w v + granted Second w v ≤ 267)
 grants w v x y = (omega arith, omega arith, omega arith)
 
--- both motors and the supply
-pub record AllFine {C A : Type 0} (k : Kind C A) (s : Stand C A) (a b : Bool) : Type 0 where
-  pub one : Fine k s.one a
-  pub two : Fine k s.two b
-  pub together : s.one.points + s.two.points ≤ 267
+-- both motors and the supply: calm says of each motor that no report tripped it since the last accepted cycle
+pub record AllFine {C A : Type 0} (k : Kind C A) (s : Stand C A) (calm : CoilId → Bool) : Type 0 where
+  pub each : (i : CoilId) → Fine k (at s i) (calm i)
+  pub together : s.first.points + s.second.points ≤ 267
 
-all_after : {C A : Type 0} (k : Rules C A) (s : Stand C A) (a b : Bool) (q : Query) → Lawful k.kind → AllFine k.kind s a b →
-    AllFine k.kind (stand_after k s q) (calmed a (deed k.lines q.stage First q.asked)) (calmed b (deed k.lines q.stage Second q.asked))
-all_after {C} {A} k s a b q law f =
-    let h : Share C A = share_after k First s.one q in
-    let g : Share C A = share_after k Second s.two q in
-    let o : Option Deed = deed k.lines q.stage First q.asked in
-    let p : Option Deed = deed k.lines q.stage Second q.asked in
-    let w : ℕ = wanted k.kind h in
-    let v : ℕ = wanted k.kind g in
-    let z = grants w v (chosen_le (k.kind.current h.axis) h.currents (sane_lives k First s.one.own o f.one.sane)) (chosen_le (k.kind.current g.axis) g.currents (sane_lives k Second s.two.own p f.two.sane)) in
+all_after : {C A : Type 0} (k : Rules C A) (s : Stand C A) (calm : CoilId → Bool) (q : Query) → Lawful k.kind → AllFine k.kind s calm →
+    AllFine k.kind (stand_after k s q) (λ i. calmed (calm i) (deed k.lines q.stage i q.asked))
+all_after {C} {A} k s calm q law f =
+    let o : CoilId → Option Deed = λ i. deed k.lines q.stage i q.asked in
+    let want : (i : CoilId) → wanted_after k s i q ≤ 167 = λ i. chosen_le (k.kind.current (share_after k i (at s i) q).axis) (share_after k i (at s i) q).currents (sane_lives k i (at s i).own (o i) (f.each i).sane) in
+    let z = grants (wanted_after k s First q) (wanted_after k s Second q) (want First) (want Second) in
     record {
-      one = fine_lives k First s.one a o w v law f.one z.0;
-      two = fine_lives k Second s.two b p w v law f.two z.1;
-      together = together_after k.lines q.stage q.asked (coil s.one) (coil s.two) w v f.together z.2;
+      each = λ i. elim i as (λ i. Fine k.kind (at (stand_after k s q) i) (calmed (calm i) (o i))) [
+        | First ↦ fine_lives k First s.first (calm First) (o First) (wanted_after k s First q) (wanted_after k s Second q) law (f.each First) z.0
+        | Second ↦ fine_lives k Second s.second (calm Second) (o Second) (wanted_after k s First q) (wanted_after k s Second q) law (f.each Second) z.1
+      ];
+      together = together_after k.lines q.stage q.asked (coil s.first) (coil s.second) (wanted_after k s First q) (wanted_after k s Second q) f.together z.2;
     }
 
 quiet_more : (b : Bool) (o : Option Deed) (ds : List Deed) → quiet (calmed b o) ds ≡ quiet b (cons_option o ds)
@@ -226,11 +224,13 @@ quiet_more b None ds = refl
 quiet_more b (Some d) ds = refl
 
 -- after any list of calls
-pub all_fine : {C A : Type 0} (k : Rules C A) (s : Stand C A) (a b : Bool) (qs : List Query) → Lawful k.kind → AllFine k.kind s a b → AllFine k.kind (stands k s qs) (quiet a (deeds_of k.lines First qs)) (quiet b (deeds_of k.lines Second qs))
-all_fine k s a b [] law f = f
-all_fine {C} {A} k s a b (q ∷ qs) law f =
-    let o : Option Deed = deed k.lines q.stage First q.asked in
-    let p : Option Deed = deed k.lines q.stage Second q.asked in
-    let P : Bool → Type 0 = λ z. AllFine k.kind (stands k (stand_after k s q) qs) z (quiet (calmed b p) (deeds_of k.lines Second qs)) in
-    let Q : Bool → Type 0 = λ z. AllFine k.kind (stands k (stand_after k s q) qs) (quiet a (cons_option o (deeds_of k.lines First qs))) z in
-    subst Q (quiet_more b p (deeds_of k.lines Second qs)) (subst P (quiet_more a o (deeds_of k.lines First qs)) (all_fine k (stand_after k s q) (calmed a o) (calmed b p) qs law (all_after k s a b q law f)))
+pub all_fine : {C A : Type 0} (k : Rules C A) (s : Stand C A) (calm : CoilId → Bool) (qs : List Query) → Lawful k.kind → AllFine k.kind s calm → AllFine k.kind (stands k s qs) (λ i. quiet (calm i) (deeds_of k.lines i qs))
+all_fine k s calm [] law f = f
+all_fine {C} {A} k s calm (q ∷ qs) law f =
+    let o : CoilId → Option Deed = λ i. deed k.lines q.stage i q.asked in
+    let t : Stand C A = stands k (stand_after k s q) qs in
+    let more : AllFine k.kind t (λ i. quiet (calmed (calm i) (o i)) (deeds_of k.lines i qs)) = all_fine k (stand_after k s q) (λ i. calmed (calm i) (o i)) qs law (all_after k s calm q law f) in
+    record {
+      each = λ i. subst (Fine k.kind (at t i)) (quiet_more (calm i) (o i) (deeds_of k.lines i qs)) (more.each i);
+      together = more.together;
+    }
