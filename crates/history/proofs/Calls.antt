@@ -1,5 +1,6 @@
 -- One call of a module, as a step from stand to stand.
 use Rattle.std.proofs.Common.{◌≡◌, ℕ, Bool, true, false, cond, eqb, List, [], length, ℤ, is_ok, Some, None, Ok, Err, sym, refl, ap, ◌∙◌, subst}
+use Rattle.axis.specs.Kinds.{Kind}
 use Rattle.coil.specs.Chains.{Did}
 use Rattle.coil.specs.Coils.{at, at_both, both, same_both}
 use Rattle.coil.specs.Meaning.{Coils}
@@ -7,8 +8,8 @@ use Rattle.coil.specs.declared.CoilId.{CoilId}
 use Rattle.coil.specs.declared.CoilId.TheVariants.{First, Second}
 use Rattle.history.specs.Lists.{half_told}
 use Rattle.history.specs.Ran.{Once}
-use Rattle.history.specs.Stands.{Query, Stand, Standing, coil, given, share_after, stand, stand_after, standing, standing_after, wanted_after}
-use Rattle.module.specs.Called.{Called, Filled}
+use Rattle.history.specs.Stands.{first_stand, first_standing, Query, Stand, Standing, coil, given, share_after, stand, stand_after, standing, standing_after, wanted_after}
+use Rattle.module.specs.Called.{Called, Filled, Made}
 use Rattle.module.specs.Effects.{Answer, Asked, answer, cycle, deed, half, length_answer, outcome, points_after, setting}
 use Rattle.module.specs.Share.{Rules, Share, share, wanted}
 use Rattle.module.specs.declared.inner.Inner.{Inner}
@@ -17,8 +18,11 @@ use Rattle.registers.specs.declared.Stage.{Stage}
 use Rattle.registers.specs.declared.Stage.TheVariants.{Running}
 
 -- two modules stand the same where each motor does
-pub same_stand : {C A : Type 0} (f g : CoilId → Standing C A) → ((i : CoilId) → (f i).own ≡ (g i).own) → ((i : CoilId) → (f i).points ≡ (g i).points) → both f ≡ both g
+same_stand : {C A : Type 0} (f g : CoilId → Standing C A) → ((i : CoilId) → (f i).own ≡ (g i).own) → ((i : CoilId) → (f i).points ≡ (g i).points) → both f ≡ both g
 same_stand f g own points = same_both f g (λ i. ap (λ h. record { own = h; points = (f i).points }) (own i) ∙ ap (λ n. record { own = (g i).own; points = n }) (points i))
+
+pub made_stand : {C A D : Type 0} (k : Kind C A) (meaning : D → Coils) (did : Did D) (d : D) (x : Inner A D C) → Made k meaning did d x → stand k meaning x ≡ first_stand k (meaning d)
+made_stand k meaning did d x m = same_stand (standing k meaning x) (first_standing k (meaning d)) m.motors m.points
 
 pub called_stand : {C A D : Type 0} (k : Rules C A) (meaning : D → Coils) (did : Did D) (stage : Stage) (a : Asked) (x y : Inner A D C) (r : Answer) → Called k meaning did stage a x y r →
     stand k.kind meaning y ≡ stand_after k (stand k.kind meaning x) (record { stage = stage; asked = a })

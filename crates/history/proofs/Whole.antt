@@ -1,10 +1,9 @@
 -- A whole history: preparation, then, if the module was started, the calls that follow.
 use Rattle.std.proofs.Common.{◌≡◌, List, [], ◌∷◌, ◌++◌, map, Some, None, vec_items, Option, Vec, sym, refl, ap, ◌∙◌, subst, append_assoc}
-use Rattle.axis.specs.Kinds.{Kind}
 use Rattle.coil.proofs.Chained.{chain_append}
 use Rattle.coil.specs.Chains.{Chain, Did}
 use Rattle.coil.specs.Meaning.{Coils}
-use Rattle.history.proofs.Calls.{same_stand}
+use Rattle.history.proofs.Calls.{made_stand}
 use Rattle.history.specs.Lists.{Answered, Event, events, operated, operation, preparation, prepared, queries, running, tolds}
 use Rattle.history.specs.Ran.{BothStarted, Passed, Ran}
 use Rattle.history.specs.Stands.{Query, Stand, drives, first_stand, stand, stand_after, stands, tells, told}
@@ -20,9 +19,6 @@ use Rattle.std.proofs.lemmas.List.Sums.{fold-append}
 use Rattle.std.proofs.lemmas.List.{map-append}
 use Rattle.std.specs.Option.{option_map}
 use Rattle.std.specs.declared.alloc.Global.{Global}
-
-made_stand : {C A D : Type 0} (k : Kind C A) (meaning : D → Coils) (did : Did D) (d : D) (x : Inner A D C) → Made k meaning did d x → stand k meaning x ≡ first_stand k (meaning d)
-made_stand k meaning did d x m = same_stand _ _ m.motors m.points
 
 tells_append : {C A : Type 0} (k : Rules C A) (s : Stand C A) (ps qs : List Query) → tells k s (ps ++ qs) ≡ tells k s ps ++ tells k (stands k s ps) qs
 tells_append k s [] qs = refl

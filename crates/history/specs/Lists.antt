@@ -81,11 +81,11 @@ queries vs = map (λ v. v.query) vs
 abbrev pub tolds : List Event → List Told
 tolds vs = map (λ v. v.told) vs
 
--- the calls in preparation, and those of the running module, if it was started
+-- the calls in preparation, and those of a running module, none where it was not started
 abbrev pub preparation : History → List Event
 preparation h = map prepared (vec_items h.preparation)
 
-abbrev pub operation : Option (List Event) → List Event
+abbrev pub operation : {X : Type 0} → Option (List X) → List X
 operation o = unwrap_or o []
 
 abbrev pub running : History → Option (List Event)

@@ -15,7 +15,7 @@ use Rattle.law.proofs.Counts.{counts}
 use Rattle.law.proofs.Heard.{heard_tells, own_stands, replies_start}
 use Rattle.law.proofs.Supply.{AllFine, Fine, Lawful, all_fine}
 use Rattle.law.specs.Deeds.{deeds_of, ending, heard, quiet, quiet_after, replies}
-use Rattle.law.specs.Law.{EqualSumsLeaveEqualCounts, MotorsAreIndependent, Run, called, deeds, lines_of, started, travel}
+use Rattle.law.specs.Law.{EqualSumsLeaveEqualCounts, MotorsAreIndependent, Run, deeds, lines_of, started, travel}
 use Rattle.law.specs.Models.{LawOfRun, Runs, ShowsWhatWasDone, model_shown}
 use Rattle.law.specs.Whole.{whole}
 use Rattle.law.specs.declared.FunctionModel.{FunctionModel}
@@ -32,17 +32,17 @@ use Rattle.std.specs.Option.{option_map}
 use Rattle.step_axis.specs.Taken.{step_kind}
 
 -- the start in between: the same list of deeds without it
-begun : {B : Type 0} (f : B → Deed → B) (b : B) → ((z : B) → f z starts ≡ z) → (lines : List Line) (i : CoilId) (xs : List Deed) (o : Option (List Query)) → fold f b (xs ++ started lines i o) ≡ fold f b (xs ++ deeds_of lines i (called o))
+begun : {B : Type 0} (f : B → Deed → B) (b : B) → ((z : B) → f z starts ≡ z) → (lines : List Line) (i : CoilId) (xs : List Deed) (o : Option (List Query)) → fold f b (xs ++ started lines i o) ≡ fold f b (xs ++ deeds_of lines i (operation o))
 begun f b still lines i xs None = refl
 begun f b still lines i xs (Some qs) =
     let ys : List Deed = deeds_of lines i qs in
     fold-append f b xs (starts ∷ ys) ∙ ap (λ z. fold f z ys) (still (fold f b xs)) ∙ sym (fold-append f b xs ys)
 
-replies_begun : {C A : Type 0} (k : Rules C A) (i : CoilId) (h : Share C A) (xs : List Deed) (o : Option (List Query)) → replies k i h (xs ++ started k.lines i o) ≡ replies k i h (xs ++ deeds_of k.lines i (called o))
+replies_begun : {C A : Type 0} (k : Rules C A) (i : CoilId) (h : Share C A) (xs : List Deed) (o : Option (List Query)) → replies k i h (xs ++ started k.lines i o) ≡ replies k i h (xs ++ deeds_of k.lines i (operation o))
 replies_begun k i h xs None = refl
 replies_begun k i h xs (Some qs) = replies_start k i h xs (deeds_of k.lines i qs)
 
-called_queries : (o : Option (List Event)) → queries (operation o) ≡ called (option_map queries o)
+called_queries : (o : Option (List Event)) → queries (operation o) ≡ operation (option_map queries o)
 called_queries None = refl
 called_queries (Some vs) = refl
 
@@ -63,11 +63,11 @@ kept {C} {A} {D} {kind} {lines} {meaning} {did} {d} {h} {g} {x} m law runs sound
     let k : Rules C A = rules kind table in
     let done : Ran k meaning did d h g x = subst (λ l. Ran (rules kind l) meaning did d h g x) runs.table ran in
     let r : Run = whole m kind meaning d h g x in
-    let qs : List Query = r.settings ++ called r.calls in
+    let qs : List Query = r.settings ++ operation r.calls in
     let s : Stand C A = first_stand kind (meaning d) in
     let all : queries (events h) ≡ qs = map-append (λ v. v.query) (preparation h) (operation (running h)) ∙ ap (λ z. r.settings ++ z) (called_queries (running h)) in
     let last : stand kind meaning x ≡ stands k s qs = done.after ∙ ap (stands k s) all in
-    let parts : (i : CoilId) → deeds_of table i qs ≡ deeds_of table i r.settings ++ deeds_of table i (called r.calls) = λ i. filter_map-append (λ q. deed table q.stage i q.asked) r.settings (called r.calls) in
+    let parts : (i : CoilId) → deeds_of table i qs ≡ deeds_of table i r.settings ++ deeds_of table i (operation r.calls) = λ i. filter_map-append (λ q. deed table q.stage i q.asked) r.settings (operation r.calls) in
     let own : (i : CoilId) → (at (stands k s qs) i).own ≡ ending k i (born kind (at (meaning d) i)) (deeds r i) =
     λ i. own_stands k i s qs ∙ ap (λ z. ending k i z.own (deeds_of table i qs)) (at_both (first_standing kind (meaning d)) i) ∙ ap (ending k i (born kind (at (meaning d) i))) (parts i)
     ∙ sym (begun (after k i) (born kind (at (meaning d) i)) (λ z. refl) table i (deeds_of table i r.settings) r.calls) in
