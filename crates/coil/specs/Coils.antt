@@ -12,8 +12,8 @@ at c Second = c.second
 
 -- the values with another one for the coil i
 abbrev pub put : {T : Type 0} → PerCoil T → CoilId → T → PerCoil T
-put c First x = record { first = x; second = c.second }
-put c Second x = record { first = c.first; second = x }
+put c First x = record c { first = x }
+put c Second x = record c { second = x }
 
 -- the values of a function at both coils
 abbrev pub both : {T : Type 0} → (CoilId → T) → PerCoil T
