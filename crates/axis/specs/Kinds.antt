@@ -46,7 +46,7 @@ Rests {C} {A} k = (config : C) (x : A) (s : Seen) (orders : List ℕ) → trippe
 
 -- the coil after a cycle
 abbrev pub moved : {A : Type 0} → Coil → Outcome A → Coil
-moved c o = record { count = o.count; points = c.points; flags = o.flags }
+moved c o = record c { count = o.count; flags = o.flags }
 
 -- one cycle of an axis on the coil i: a and d become a' and d', and o is what the kind makes of them
 pub record Cycled {A D : Type 0} (meaning : D → Coils) (did : Did D) (i : CoilId) (o : Outcome A) (a' : A) (d d' : D) (answer : List ℕ) (ended : Result (Unit {0}) AxisFault) : Type 0 where

@@ -1,11 +1,11 @@
 -- The whole effect of each call, put together from what its steps do.
-use Rattle.std.proofs.Common.{◌≡◌, ℕ, Bool, true, false, cond, eqb, ltb, ◌⊎◌, List, [], ◌∷◌, ◌++◌, length, ℤ, is_err, Some, None, Ok, Err, Option, ok_or, unwrap_or, sym, refl, ap, ◌∙◌, subst, inl, inr, eqb-true}
+use Rattle.std.proofs.Common.{◌≡◌, ℕ, Bool, true, false, cond, eqb, ltb, ◌⊎◌, List, [], ◌∷◌, ◌++◌, length, ℤ, is_err, Some, None, Ok, Err, Option, unwrap_or, sym, refl, ap, ◌∙◌, subst, inl, inr}
 use Rattle.axis.specs.Kinds.{Kind}
 use Rattle.axis.specs.declared.currents.CurrentSetting.{CurrentSetting}
 use Rattle.coil.proofs.Chained.{chain_join}
+use Rattle.coil.proofs.Numbered.{by_no_number, by_own_number}
 use Rattle.coil.specs.Chains.{Chain, Did, on}
-use Rattle.coil.specs.Numbers.{by_number, coil_numbered, number}
-use Rattle.coil.specs.declared.error.UnknownCoil.{UnknownCoil}
+use Rattle.coil.specs.Numbers.{number}
 use Rattle.coil.specs.Coils.{at, at_put, at_put_other, put}
 use Rattle.coil.specs.Meaning.{Coil, Coils, acknowledged, noted, reported, tripped}
 use Rattle.coil.specs.declared.CoilCall.TheVariants.{Clear, Note}
@@ -25,13 +25,14 @@ use Rattle.registers.specs.declared.Setting.{Setting}
 use Rattle.registers.specs.declared.Setting.TheVariants.{Configuration, Current}
 use Rattle.registers.specs.declared.Stage.{Stage}
 use Rattle.registers.specs.declared.Stage.TheVariants.{Running}
+use Rattle.std.proofs.lemmas.Bool.{cond_both}
 use Rattle.supply.specs.Shares.{granted}
 
 abbrev with_driver : {C A D : Type 0} → Inner A D C → D → Inner A D C
-with_driver x d = record { configuration = x.configuration; motors = x.motors; cycles = x.cycles; supply = x.supply; driver = d }
+with_driver x d = record x { driver = d }
 
 abbrev with_flags : {C A : Type 0} → Share C A → ℕ → Share C A
-with_flags h f = record { config = h.config; axis = h.axis; currents = h.currents; fault = h.fault; cycles = h.cycles; count = h.count; flags = f }
+with_flags h f = record h { flags = f }
 
 -- reports and acknowledgements, on the motor of a number
 
@@ -40,22 +41,6 @@ either First First = inl refl
 either First Second = inr (λ q. cc)
 either Second First = inr (λ q. cc)
 either Second Second = inl refl
-
-pub motor_is : (n : ℕ) (i : CoilId) (u : UnknownCoil) → ok_or (coil_numbered n) u ≡ Ok i → n ≡ number i
-motor_is n i u e = by (eqb n 1) (eqb n 2) refl refl e
-  where
-    by : (a b : Bool) → eqb n 1 ≡ a → eqb n 2 ≡ b → ok_or (cond a (Some First) (cond b (Some Second) None)) u ≡ Ok i → n ≡ number i
-    by true b p q e = let same : First ≡ i = cc in eqb-true n 1 p ∙ ap number same
-    by false true p q e = let same : Second ≡ i = cc in eqb-true n 2 q ∙ ap number same
-    by false false p q e = cc
-
-pub no_motor : (n : ℕ) (u v : UnknownCoil) → ok_or (coil_numbered n) u ≡ Err v → (eqb n 1 ≡ false) × (eqb n 2 ≡ false)
-no_motor n u v e = by (eqb n 1) (eqb n 2) refl refl e
-  where
-    by : (a b : Bool) → eqb n 1 ≡ a → eqb n 2 ≡ b → ok_or (cond a (Some First) (cond b (Some Second) None)) u ≡ Err v → (eqb n 1 ≡ false) × (eqb n 2 ≡ false)
-    by true b p q e = cc
-    by false true p q e = cc
-    by false false p q e = (p, q)
 
 own_deed : (i : CoilId) (d : Deed) → motor_deed i (number i) d ≡ Some d
 own_deed First d = refl
@@ -66,10 +51,6 @@ other_deed First First d ne = absurd (ne refl)
 other_deed First Second d ne = refl
 other_deed Second First d ne = refl
 other_deed Second Second d ne = absurd (ne refl)
-
-for_motor : {X : Type 0} (i : CoilId) (f : CoilId → X) (z : X) → by_number (number i) f z ≡ f i
-for_motor First f z = refl
-for_motor Second f z = refl
 
 -- a deed d to the motor i alone, that leaves it the coil c
 called_motor : {C A D : Type 0} (k : Rules C A) (meaning : D → Coils) (did : Did D) (asked : Asked) (d : Deed) (i : CoilId) (x : Inner A D C) (e : D) (c : Coil) →
@@ -109,19 +90,19 @@ called_report {C} {A} {D} k meaning did i n f x e is low coils c =
     let b : Coil = at (meaning x.driver) i in
     subst P (sym is) (called_motor k meaning did (report (number i) f) (reports f) i x e (reported b f)
     (own_deed i (reports f)) (λ j ne. other_deed i j (reports f) ne)
-    (ap (λ t. cond t (Ok tt) (Err UnknownFlags)) (sym low) ∙ sym (for_motor i (λ _. flags_answer f) (Err UnknownMotor)))
+    (ap (λ t. cond t (Ok tt) (Err UnknownFlags)) (sym low) ∙ sym (by_own_number i (λ _. flags_answer f) (Err UnknownMotor)))
     coils
-    (ap (λ t. share_of h.config (motor_at k.kind x.motors i) h.cycles (record { count = b.count; points = (reported b f).points; flags = cond t (noted b.flags f) b.flags })) (sym low))
+    (ap (λ t. share_of h.config (motor_at k.kind x.motors i) h.cycles (record (reported b f) { flags = cond t (noted b.flags f) b.flags })) (sym low))
     (λ w v. ap (λ t. cond t (cond (tripped (noted b.flags f)) 0 b.points) b.points) (sym low))
-    (subst (λ z. Chain did x.driver z e) (ap (λ t. cond t (on i (Note f) ∷ []) []) (sym low) ∙ sym (for_motor i (λ j. note_calls j f) [])) (e, (c, refl))))
+    (subst (λ z. Chain did x.driver z e) (ap (λ t. cond t (on i (Note f) ∷ []) []) (sym low) ∙ sym (by_own_number i (λ j. note_calls j f) [])) (e, (c, refl))))
 
 pub called_acknowledge : {C A D : Type 0} (k : Rules C A) (meaning : D → Coils) (did : Did D) (i : CoilId) (n : ℕ) (x : Inner A D C) (e : D) → n ≡ number i →
     meaning e ≡ put (meaning x.driver) i (acknowledged (at (meaning x.driver) i)) → did x.driver (on i Clear) e → Called k meaning did Running (acknowledgement n) x (with_driver x e) (Ok tt)
 called_acknowledge {C} {A} {D} k meaning did i n x e is coils c =
     let P : ℕ → Type 0 = λ m. Called k meaning did Running (acknowledgement m) x (with_driver x e) (Ok tt) in
     subst P (sym is) (called_motor k meaning did (acknowledgement (number i)) acknowledges i x e (acknowledged (at (meaning x.driver) i))
-    (own_deed i acknowledges) (λ j ne. other_deed i j acknowledges ne) (sym (for_motor i (λ _. Ok tt) (Err UnknownMotor))) coils refl (λ w v. refl)
-    (subst (λ z. Chain did x.driver z e) (sym (for_motor i (λ j. on j Clear ∷ []) [])) (e, (c, refl))))
+    (own_deed i acknowledges) (λ j ne. other_deed i j acknowledges ne) (sym (by_own_number i (λ _. Ok tt) (Err UnknownMotor))) coils refl (λ w v. refl)
+    (subst (λ z. Chain did x.driver z e) (sym (by_own_number i (λ j. on j Clear ∷ []) [])) (e, (c, refl))))
 
 -- a call that leaves everything as it was
 untouched : {C A D : Type 0} (k : Rules C A) (meaning : D → Coils) (did : Did D) (stage : Stage) (asked : Asked) (x : Inner A D C) (r : Answer) →
@@ -138,37 +119,28 @@ untouched k meaning did stage asked x r num motors points none = record {
 }
 
 -- a motor that there isn't
-none_for : (n : ℕ) (i : CoilId) (d : Deed) → eqb n 1 ≡ false → eqb n 2 ≡ false → motor_deed i n d ≡ None
-none_for n First d p q = ap (λ t. cond t (Some d) None) p
-none_for n Second d p q = ap (λ t. cond t (Some d) None) q
+none_for : (n : ℕ) (i : CoilId) (d : Deed) → eqb n (number i) ≡ false → motor_deed i n d ≡ None
+none_for n i d e = ap (λ t. cond t (Some d) None) e
 
-neither : {X : Type 0} (n : ℕ) (f : CoilId → X) (z : X) → eqb n 1 ≡ false → eqb n 2 ≡ false → by_number n f z ≡ z
-neither n f z p q = ap (λ t. cond t (f First) (cond (eqb n 2) (f Second) z)) p ∙ ap (λ t. cond t (f Second) z) q
+pub report_nobody : {C A D : Type 0} (k : Rules C A) (meaning : D → Coils) (did : Did D) (n f : ℕ) (x : Inner A D C) (r : Answer) → r ≡ Err UnknownMotor → ((i : CoilId) → eqb n (number i) ≡ false) → Called k meaning did Running (report n f) x x r
+report_nobody k meaning did n f x r e none = untouched k meaning did Running (report n f) x r (e ∙ sym (by_no_number n (λ _. flags_answer f) (Err UnknownMotor) none))
+    (λ i. ap (lives k i (share k.kind meaning x i)) (none_for n i (reports f) (none i))) (λ i c w v. ap (points_after i c w v) (none_for n i (reports f) (none i))) (by_no_number n (λ i. note_calls i f) [] none)
 
-pub report_nobody : {C A D : Type 0} (k : Rules C A) (meaning : D → Coils) (did : Did D) (n f : ℕ) (x : Inner A D C) (r : Answer) → r ≡ Err UnknownMotor → eqb n 1 ≡ false → eqb n 2 ≡ false → Called k meaning did Running (report n f) x x r
-report_nobody k meaning did n f x r e p q = untouched k meaning did Running (report n f) x r (e ∙ sym (neither n (λ _. flags_answer f) (Err UnknownMotor) p q))
-    (λ i. ap (lives k i (share k.kind meaning x i)) (none_for n i (reports f) p q)) (λ i c w v. ap (points_after i c w v) (none_for n i (reports f) p q)) (neither n (λ i. note_calls i f) [] p q)
-
-pub acknowledge_nobody : {C A D : Type 0} (k : Rules C A) (meaning : D → Coils) (did : Did D) (n : ℕ) (x : Inner A D C) (r : Answer) → r ≡ Err UnknownMotor → eqb n 1 ≡ false → eqb n 2 ≡ false → Called k meaning did Running (acknowledgement n) x x r
-acknowledge_nobody k meaning did n x r e p q = untouched k meaning did Running (acknowledgement n) x r (e ∙ sym (neither n (λ _. Ok tt) (Err UnknownMotor) p q))
-    (λ i. ap (lives k i (share k.kind meaning x i)) (none_for n i acknowledges p q)) (λ i c w v. ap (points_after i c w v) (none_for n i acknowledges p q)) (neither n (λ i. on i Clear ∷ []) [] p q)
+pub acknowledge_nobody : {C A D : Type 0} (k : Rules C A) (meaning : D → Coils) (did : Did D) (n : ℕ) (x : Inner A D C) (r : Answer) → r ≡ Err UnknownMotor → ((i : CoilId) → eqb n (number i) ≡ false) → Called k meaning did Running (acknowledgement n) x x r
+acknowledge_nobody k meaning did n x r e none = untouched k meaning did Running (acknowledgement n) x r (e ∙ sym (by_no_number n (λ _. Ok tt) (Err UnknownMotor) none))
+    (λ i. ap (lives k i (share k.kind meaning x i)) (none_for n i acknowledges (none i))) (λ i c w v. ap (points_after i c w v) (none_for n i acknowledges (none i))) (by_no_number n (λ i. on i Clear ∷ []) [] none)
 
 -- flags that there are not
 pub report_flags : {C A D : Type 0} (k : Rules C A) (meaning : D → Coils) (did : Did D) (i : CoilId) (n f : ℕ) (x : Inner A D C) → n ≡ number i → ltb f 16 ≡ false → Called k meaning did Running (report n f) x x (Err UnknownFlags)
 report_flags {C} {A} {D} k meaning did i n f x is high =
     let P : ℕ → Type 0 = λ m. Called k meaning did Running (report m f) x x (Err UnknownFlags) in
     subst P (sym is) (untouched k meaning did Running (report (number i) f) x (Err UnknownFlags)
-    (ap (λ t. cond t (Ok tt) (Err UnknownFlags)) (sym high) ∙ sym (for_motor i (λ _. flags_answer f) (Err UnknownMotor)))
-    (λ j. by (eqb (number i) (number j)) j) (λ j c w v. bare (eqb (number i) (number j)) j c w v)
-    (for_motor i (λ j. note_calls j f) [] ∙ ap (λ t. cond t (on i (Note f) ∷ []) []) high))
-  where
-    by : (t : Bool) (j : CoilId) → lives k j (share k.kind meaning x j) (cond t (Some (reports f)) None) ≡ share k.kind meaning x j
-    by true j = ap (λ t. with_flags (share k.kind meaning x j) (cond t (noted (share k.kind meaning x j).flags f) (share k.kind meaning x j).flags)) high
-    by false j = refl
-
-    bare : (t : Bool) (j : CoilId) (c : Coil) (w v : ℕ) → points_after j c w v (cond t (Some (reports f)) None) ≡ c.points
-    bare true j c w v = ap (λ t. cond t (cond (tripped (noted c.flags f)) 0 c.points) c.points) high
-    bare false j c w v = refl
+    (ap (λ t. cond t (Ok tt) (Err UnknownFlags)) (sym high) ∙ sym (by_own_number i (λ _. flags_answer f) (Err UnknownMotor)))
+    (λ j. cond_both (eqb (number i) (number j)) (Some (reports f)) None (λ o. lives k j (share k.kind meaning x j) o ≡ share k.kind meaning x j)
+    (λ _. ap (λ t. with_flags (share k.kind meaning x j) (cond t (noted (share k.kind meaning x j).flags f) (share k.kind meaning x j).flags)) high) (λ _. refl))
+    (λ j c w v. cond_both (eqb (number i) (number j)) (Some (reports f)) None (λ o. points_after j c w v o ≡ c.points)
+    (λ _. ap (λ t. cond t (cond (tripped (noted c.flags f)) 0 c.points) c.points) high) (λ _. refl))
+    (by_own_number i (λ j. note_calls j f) [] ∙ ap (λ t. cond t (on i (Note f) ∷ []) []) high))
 
 -- cycles
 
@@ -242,11 +214,7 @@ lived k stage n v i h o e = ap (λ p. lives k i h (set_deed i stage p n v)) e �
 
 set_points : (i : CoilId) (stage : Stage) (o : Option Register) (n : ℕ) (x : ℤ) (c : Coil) (w v : ℕ) → points_after i c w v (set_deed i stage o n x) ≡ c.points
 set_points i stage None n x c w v = refl
-set_points i stage (Some r) n x c w v = so (concerns i r.setting)
-  where
-    so : (t : Bool) → points_after i c w v (cond t (Some (sets stage n x)) None) ≡ c.points
-    so true = refl
-    so false = refl
+set_points i stage (Some r) n x c w v = cond_both (concerns i r.setting) (Some (sets stage n x)) None (λ o. points_after i c w v o ≡ c.points) (λ _. refl) (λ _. refl)
 
 -- a setting of a register that the table has as o
 called_set : {C A D : Type 0} (k : Rules C A) (meaning : D → Coils) (did : Did D) (stage : Stage) (n : ℕ) (v : ℤ) (x y : Inner A D C) (r : Answer) (o : Option Register) → look_up k.lines n ≡ o →
@@ -267,14 +235,10 @@ set_unknown k meaning did stage n v x r num e = called_set k meaning did stage n
 
 closed : {C A : Type 0} (k : Kind C A) (stage : Stage) (r : Register) (i : CoilId) (h : Share C A) (v : ℤ) → is_open r.opened stage ≡ false → h ≡ set_lived k stage (Some r) i h v
 unfolding set_lived
-closed {C} {A} k stage r i h v e = so (concerns i r.setting)
+closed k stage r i h v e = cond_both (concerns i r.setting) (set_share k stage (Some r) h v) h (λ z. h ≡ z) (λ _. still) (λ _. refl)
   where
     still : h ≡ set_share k stage (Some r) h v
     still = same_share h (set_share k stage (Some r) h v) (ap (λ t. cond t (configured k r.setting h.config v) h.config) (sym e)) refl (ap (λ t. cond t (adjusted r.setting (powered k h) h.currents v) h.currents) (sym e)) refl refl refl refl
-
-    so : (t : Bool) → h ≡ cond t (set_share k stage (Some r) h v) h
-    so true = still
-    so false = refl
 
 pub set_closed : {C A D : Type 0} (k : Rules C A) (meaning : D → Coils) (did : Did D) (stage : Stage) (n : ℕ) (v : ℤ) (x : Inner A D C) (r : Register) → look_up k.lines n ≡ Some r → is_open r.opened stage ≡ false → Called k meaning did stage (setting n v) x x (Err Closed)
 set_closed k meaning did stage n v x r e c = called_set k meaning did stage n v x x (Err Closed) (Some r) e

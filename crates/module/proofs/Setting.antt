@@ -54,9 +54,9 @@ still_powered k meaning i which v n x e p = record {
 pub set_current : {C A D : Type 0} (k : Kind C A) (meaning : D → Coils) (i : CoilId) (which : CurrentSetting) (v : ℤ) (n p : ℕ) (x : Inner A D C) (m : Motor A) (d : Motor A) →
     points_from v ≡ Some n → powered k (share k meaning x i) ≡ false → p ≡ place i → p < length x.motors →
     m.axis ≡ (get_or x.motors p d).axis → levels m.currents ≡ with_level (levels (get_or x.motors p d).currents) which n → m.fault ≡ (get_or x.motors p d).fault →
-    Adjusted k meaning i which v x (record { configuration = x.configuration; motors = set x.motors p m; cycles = x.cycles; supply = x.supply; driver = x.driver }) (Ok tt)
+    Adjusted k meaning i which v x (record x { motors = set x.motors p m }) (Ok tt)
 set_current {C} {A} {D} k meaning i which v n p x m d e b pe h axis currents fault =
-    let y : Inner A D C = record { configuration = x.configuration; motors = set x.motors p m; cycles = x.cycles; supply = x.supply; driver = x.driver } in
+    let y : Inner A D C = record x { motors = set x.motors p m } in
     let there = motor_there k x.motors i p d pe h in
     let put = motor_put k x.motors i p m pe h in
     let own : share k meaning y i ≡ with_currents (share k meaning x i) (adjusted (Current i which) (powered k (share k meaning x i)) (share k meaning x i).currents v) =

@@ -30,12 +30,9 @@ same_share {C} {A} h g config axis currents fault cycles count flags =
 
 -- the share after a turn, whose cycle has its number already
 abbrev turned_share : {C A : Type 0} → Kind C A → CoilId → Share C A → List ℕ → Share C A
-turned_share k i h orders = record {
-  config = h.config;
+turned_share k i h orders = record h {
   axis = (outcome k h orders).axis;
-  currents = h.currents;
   fault = latest i h.cycles (outcome k h orders).ending h.fault;
-  cycles = h.cycles;
   count = (outcome k h orders).count;
   flags = (outcome k h orders).flags;
 }
@@ -74,7 +71,7 @@ points_turn k meaning did i j x y orders bytes t = ap (λ (m : Coils). (at m j).
 
 -- a module whose next cycle has its number
 abbrev pub numbered : {C A D : Type 0} → Inner A D C → Inner A D C
-numbered x = record { configuration = x.configuration; motors = x.motors; cycles = next_cycle x.cycles; supply = x.supply; driver = x.driver }
+numbered x = record x { cycles = next_cycle x.cycles }
 
 rested_share : {C A D : Type 0} (k : Kind C A) (meaning : D → Coils) (i : CoilId) (h : Share C A) (y : Inner A D C) (orders : List ℕ) → Rests k → share k meaning y i ≡ moved_share k i h orders → Rested k meaning y i
 rested_share k meaning i h y orders law e t =

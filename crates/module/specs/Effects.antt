@@ -25,7 +25,7 @@ use Rattle.supply.specs.Shares.{granted}
 
 -- a module with another configuration
 abbrev pub with_config : {C A D : Type 0} → Inner A D C → C → Inner A D C
-with_config x config = record { configuration = record { model = config }; motors = x.motors; cycles = x.cycles; supply = x.supply; driver = x.driver }
+with_config x config = record x { configuration = record { model = config } }
 
 -- what can be asked of a module
 pub data Asked : Type 0 where
@@ -104,14 +104,9 @@ currents_after stage (Some r) is_powered currents v = cond (is_open r.opened sta
 
 -- a motor after a setting that concerns it
 abbrev pub set_share : {C A : Type 0} → Kind C A → Stage → Option Register → Share C A → ℤ → Share C A
-set_share k stage found h v = record {
+set_share k stage found h v = record h {
   config = config_after k stage found h.config v;
-  axis = h.axis;
   currents = currents_after stage found (powered k h) h.currents v;
-  fault = h.fault;
-  cycles = h.cycles;
-  count = h.count;
-  flags = h.flags;
 }
 
 -- what the kind of axis makes of a motor's eight bytes
@@ -124,14 +119,12 @@ next_cycle n = (n + 1) % 2 ^ 32
 
 -- a motor with other current settings
 abbrev pub with_currents : {C A : Type 0} → Share C A → Levels → Share C A
-with_currents h currents = record { config = h.config; axis = h.axis; currents = currents; fault = h.fault; cycles = h.cycles; count = h.count; flags = h.flags }
+with_currents h currents = record h { currents = currents }
 
 -- the motor i after an accepted cycle
 abbrev pub moved_share : {C A : Type 0} → Kind C A → CoilId → Share C A → List ℕ → Share C A
-moved_share k i h orders = record {
-  config = h.config;
+moved_share k i h orders = record h {
   axis = (outcome k h orders).axis;
-  currents = h.currents;
   fault = latest i (next_cycle h.cycles) (outcome k h orders).ending h.fault;
   cycles = next_cycle h.cycles;
   count = (outcome k h orders).count;
@@ -144,24 +137,8 @@ after k i h (sets stage n v) = set_share k.kind stage (look_up k.lines n) h v
 after k i h starts = h
 after k i h (moves orders) = moved_share k.kind i h orders
 after k i h (misses n m) = h
-after k i h (reports f) = record {
-  config = h.config;
-  axis = h.axis;
-  currents = h.currents;
-  fault = h.fault;
-  cycles = h.cycles;
-  count = h.count;
-  flags = cond (nat_lt f 16) (noted h.flags f) h.flags;
-}
-after k i h acknowledges = record {
-  config = h.config;
-  axis = h.axis;
-  currents = h.currents;
-  fault = h.fault;
-  cycles = h.cycles;
-  count = h.count;
-  flags = cleared h.flags;
-}
+after k i h (reports f) = record h { flags = cond (nat_lt f 16) (noted h.flags f) h.flags }
+after k i h acknowledges = record h { flags = cleared h.flags }
 
 -- the motor i after a call that may not concern it
 abbrev pub lives : {C A : Type 0} → Rules C A → CoilId → Share C A → Option Deed → Share C A
