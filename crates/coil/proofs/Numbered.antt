@@ -4,6 +4,7 @@ use Rattle.coil.specs.Numbers.{by_number, coil_numbered, number}
 use Rattle.coil.specs.declared.CoilId.{CoilId}
 use Rattle.coil.specs.declared.CoilId.TheVariants.{First, Second}
 use Rattle.coil.specs.declared.error.UnknownCoil.{UnknownCoil}
+use Rattle.std.proofs.lemmas.Bool.{cond-false}
 
 pub by_own_number : {X : Type 0} (i : CoilId) (f : CoilId → X) (z : X) → by_number (number i) f z ≡ f i
 by_own_number First f z = refl
@@ -13,7 +14,7 @@ pub by_same_number : {X : Type 0} (n : ℕ) (i : CoilId) (f : CoilId → X) (z :
 by_same_number n i f z e = ap (λ m. by_number m f z) (eqb-true n (number i) e) ∙ by_own_number i f z
 
 pub by_no_number : {X : Type 0} (n : ℕ) (f : CoilId → X) (z : X) → ((i : CoilId) → eqb n (number i) ≡ false) → by_number n f z ≡ z
-by_no_number n f z none = ap (λ t. cond t (f First) (cond (eqb n 2) (f Second) z)) (none First) ∙ ap (λ t. cond t (f Second) z) (none Second)
+by_no_number n f z none = cond-false _ _ _ (none First) ∙ cond-false _ _ _ (none Second)
 
 pub number_of : (n : ℕ) (i : CoilId) (u : UnknownCoil) → ok_or (coil_numbered n) u ≡ Ok i → n ≡ number i
 number_of n i u e = by (eqb n 1) (eqb n 2) refl refl e

@@ -1,6 +1,8 @@
 -- What one motor hears and how it stands follows from what was done to it alone.
-use Rattle.std.proofs.Common.{◌≡◌, ℕ, Bool, true, false, cond, eqb, List, [], ◌∷◌, ◌++◌, length, ℤ, Some, None, Ok, Err, Option, sym, refl, ap, ◌∙◌, eqb-true}
+use Rattle.std.proofs.Common.{◌≡◌, ℕ, Bool, true, false, cond, eqb, List, [], ◌∷◌, ◌++◌, length, ℤ, Some, None, Ok, Err, Option, sym, refl, ap, ◌∙◌}
+use Rattle.coil.proofs.Numbered.{by_same_number}
 use Rattle.coil.specs.Coils.{at, at_both}
+use Rattle.coil.specs.Numbers.{number}
 use Rattle.coil.specs.declared.CoilId.{CoilId}
 use Rattle.coil.specs.declared.CoilId.TheVariants.{First, Second}
 use Rattle.history.specs.Stands.{Query, Stand, given, stand_after, standing_after, stands, tells, told}
@@ -56,37 +58,23 @@ heard_setting {C} {A} k i s stage n v rs (Some r) e = by i r.setting (ap (λ p. 
 
 heard_cycle : {C A : Type 0} (k : Rules C A) (i : CoilId) (h : Share C A) (orders : List ℕ) (room : ℕ) (rs : List Reply) →
     record { number = length_answer (length orders) room; bytes = given k.kind i h (cycle orders room) } ∷ rs ≡ reply k h (cycle_deed i orders room) rs
-heard_cycle {C} {A} k i h orders room rs = by (eqb (length orders) 16) (eqb room 16) refl refl
+heard_cycle k i h orders room rs = by (eqb (length orders) 16) (eqb room 16) refl
   where
-    by : (a b : Bool) → eqb (length orders) 16 ≡ a → eqb room 16 ≡ b →
-        record { number = length_answer (length orders) room; bytes = given k.kind i h (cycle orders room) } ∷ rs ≡ reply k h (cycle_deed i orders room) rs
-    by true true p q =
-        ap (λ n. record { number = n; bytes = given k.kind i h (cycle orders room) } ∷ rs) (ap (λ t. cond t (cond (eqb room 16) (Ok tt) (Err AnswerLength)) (Err RecordLength)) p ∙ ap (λ t. cond t (Ok tt) (Err AnswerLength)) q)
-        ∙ ap (λ b. record { number = Ok tt; bytes = b } ∷ rs) (ap (λ t. cond t (cond (eqb room 16) (Some (outcome k.kind h (half i orders)).answer) None) None) p ∙ ap (λ t. cond t (Some (outcome k.kind h (half i orders)).answer) None) q)
-        ∙ ap (λ d. reply k h d rs) (sym (ap (λ t. cond t (cond (eqb room 16) (moves (half i orders)) (misses (length orders) room)) (misses (length orders) room)) p ∙ ap (λ t. cond t (moves (half i orders)) (misses (length orders) room)) q))
-    by true false p q =
-        ap (λ b. record { number = length_answer (length orders) room; bytes = b } ∷ rs) (ap (λ t. cond t (cond (eqb room 16) (Some (outcome k.kind h (half i orders)).answer) None) None) p ∙ ap (λ t. cond t (Some (outcome k.kind h (half i orders)).answer) None) q)
-        ∙ ap (λ d. reply k h d rs) (sym (ap (λ t. cond t (cond (eqb room 16) (moves (half i orders)) (misses (length orders) room)) (misses (length orders) room)) p ∙ ap (λ t. cond t (moves (half i orders)) (misses (length orders) room)) q))
-    by false b p q =
-        ap (λ b. record { number = length_answer (length orders) room; bytes = b } ∷ rs) (ap (λ t. cond t (cond (eqb room 16) (Some (outcome k.kind h (half i orders)).answer) None) None) p)
-        ∙ ap (λ d. reply k h d rs) (sym (ap (λ t. cond t (cond (eqb room 16) (moves (half i orders)) (misses (length orders) room)) (misses (length orders) room)) p))
+    by : (a b : Bool) → length_answer (length orders) room ≡ cond a (cond b (Ok tt) (Err AnswerLength)) (Err RecordLength) →
+        record { number = cond a (cond b (Ok tt) (Err AnswerLength)) (Err RecordLength); bytes = cond a (cond b (Some (outcome k.kind h (half i orders)).answer) None) None } ∷ rs
+        ≡ reply k h (cond a (cond b (moves (half i orders)) (misses (length orders) room)) (misses (length orders) room)) rs
+    by true true e = refl
+    by true false e = ap (λ n. record { number = n; bytes = None } ∷ rs) (sym e)
+    by false b e = ap (λ n. record { number = n; bytes = None } ∷ rs) (sym e)
 
--- the number of a motor that there is
+-- a call of the motor with a number
 heard_motor : {C A : Type 0} (k : Rules C A) (i : CoilId) (h : Share C A) (n : ℕ) (d : Deed) (r : Answer) (rs : List Reply) → record { number = r; bytes = None } ∷ rs ≡ reply k h d rs →
     heard_one (motor_deed i n d) (record { number = motor_answer n r; bytes = None }) rs ≡ once k h (motor_deed i n d) rs
-heard_motor {C} {A} k First h n d r rs e = by (eqb n 1)
+heard_motor k i h n d r rs e = by (eqb n (number i)) refl
   where
-    by : (t : Bool) → heard_one (cond t (Some d) None) (record { number = cond t r (cond (eqb n 2) r (Err UnknownMotor)); bytes = None }) rs ≡ once k h (cond t (Some d) None) rs
-    by true = e
-    by false = refl
-heard_motor {C} {A} k Second h n d r rs e = by (eqb n 2) refl
-  where
-    one : eqb n 2 ≡ true → motor_answer n r ≡ r
-    one p = let two : n ≡ 2 = eqb-true n 2 p in ap (λ m. motor_answer m r) two
-
-    by : (t : Bool) → eqb n 2 ≡ t → heard_one (cond (eqb n 2) (Some d) None) (record { number = motor_answer n r; bytes = None }) rs ≡ once k h (cond (eqb n 2) (Some d) None) rs
-    by true p = ap (λ t. heard_one (cond t (Some d) None) (record { number = motor_answer n r; bytes = None }) rs) p ∙ ap (λ z. record { number = z; bytes = None } ∷ rs) (one p) ∙ e ∙ ap (λ t. once k h (cond t (Some d) None) rs) (sym p)
-    by false p = ap (λ t. heard_one (cond t (Some d) None) (record { number = motor_answer n r; bytes = None }) rs) p ∙ ap (λ t. once k h (cond t (Some d) None) rs) (sym p)
+    by : (t : Bool) → eqb n (number i) ≡ t → heard_one (cond t (Some d) None) (record { number = motor_answer n r; bytes = None }) rs ≡ once k h (cond t (Some d) None) rs
+    by true p = ap (λ z. record { number = z; bytes = None } ∷ rs) (by_same_number n i (λ _. r) (Err UnknownMotor) p) ∙ e
+    by false p = refl
 
 told_to : {C A : Type 0} (k : Rules C A) (i : CoilId) (s : Stand C A) (q : Query) → reply_to i (told k s q) ≡ record { number = answer k q.stage s.first.own s.second.own q.asked; bytes = given k.kind i (at s i).own q.asked }
 told_to k i s q = ap (λ b. record { number = answer k q.stage s.first.own s.second.own q.asked; bytes = b }) (at_both (λ j. given k.kind j (at s j).own q.asked) i)

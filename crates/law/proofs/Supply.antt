@@ -162,27 +162,19 @@ fine_lives k i m b None w v law s g = s
 fine_lives k i m b (Some d) w v law s g = fine_after k i m b d w v law s g
 
 -- the points of both coils together
+less : (i : CoilId) (c : Coil) (w v : ℕ) (t : Bool) (d : Deed) → points_after i c w v (Some d) ≤ c.points → points_after i c w v (cond t (Some d) None) ≤ c.points
+less i c w v t d h = cond_both t (Some d) None (λ o. points_after i c w v o ≤ c.points) (λ _. h) (λ _. omega arith)
+
 less_set : (i : CoilId) (c : Coil) (w v : ℕ) (stage : Stage) (o : Option Register) (n : ℕ) (x : ℤ) → points_after i c w v (set_deed i stage o n x) ≤ c.points
 less_set i c w v stage None n x = omega arith
-less_set i c w v stage (Some r) n x = by (concerns i r.setting)
-  where
-    by : (t : Bool) → points_after i c w v (cond t (Some (sets stage n x)) None) ≤ c.points
-    by true = omega arith
-    by false = omega arith
+less_set i c w v stage (Some r) n x = less i c w v (concerns i r.setting) (sets stage n x) (omega arith)
 
 less_report : (i : CoilId) (c : Coil) (w v n f : ℕ) → points_after i c w v (motor_deed i n (reports f)) ≤ c.points
-less_report i c w v n f = by (eqb n (number i))
-  where
-    by : (t : Bool) → points_after i c w v (cond t (Some (reports f)) None) ≤ c.points
-    by true = cond_both (ltb f 16) (cond (tripped (noted c.flags f)) 0 c.points) c.points (λ n. n ≤ c.points) (λ _. cond_both (tripped (noted c.flags f)) 0 c.points (λ n. n ≤ c.points) (λ _. omega arith) (λ _. omega arith)) (λ _. omega arith)
-    by false = omega arith
+less_report i c w v n f = less i c w v (eqb n (number i)) (reports f)
+    (cond_both (ltb f 16) (cond (tripped (noted c.flags f)) 0 c.points) c.points (λ p. p ≤ c.points) (λ _. cond_both (tripped (noted c.flags f)) 0 c.points (λ p. p ≤ c.points) (λ _. omega arith) (λ _. omega arith)) (λ _. omega arith))
 
 less_acknowledge : (i : CoilId) (c : Coil) (w v n : ℕ) → points_after i c w v (motor_deed i n acknowledges) ≤ c.points
-less_acknowledge i c w v n = by (eqb n (number i))
-  where
-    by : (t : Bool) → points_after i c w v (cond t (Some acknowledges) None) ≤ c.points
-    by true = omega arith
-    by false = omega arith
+less_acknowledge i c w v n = less i c w v (eqb n (number i)) acknowledges (omega arith)
 
 together_cycle : (c e : Coil) (w v : ℕ) (a b : Bool) (n room : ℕ) (x y : List ℕ) → c.points + e.points ≤ 267 → granted First w v + granted Second w v ≤ 267 →
     points_after First c w v (Some (cond a (cond b (moves x) (misses n room)) (misses n room))) + points_after Second e w v (Some (cond a (cond b (moves y) (misses n room)) (misses n room))) ≤ 267

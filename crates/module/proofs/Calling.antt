@@ -25,7 +25,7 @@ use Rattle.registers.specs.declared.Setting.{Setting}
 use Rattle.registers.specs.declared.Setting.TheVariants.{Configuration, Current}
 use Rattle.registers.specs.declared.Stage.{Stage}
 use Rattle.registers.specs.declared.Stage.TheVariants.{Running}
-use Rattle.std.proofs.lemmas.Bool.{cond_both}
+use Rattle.std.proofs.lemmas.Bool.{cond-false, cond_both}
 use Rattle.supply.specs.Shares.{granted}
 
 abbrev with_driver : {C A D : Type 0} → Inner A D C → D → Inner A D C
@@ -119,16 +119,13 @@ untouched k meaning did stage asked x r num motors points none = record {
 }
 
 -- a motor that there isn't
-none_for : (n : ℕ) (i : CoilId) (d : Deed) → eqb n (number i) ≡ false → motor_deed i n d ≡ None
-none_for n i d e = ap (λ t. cond t (Some d) None) e
-
 pub report_nobody : {C A D : Type 0} (k : Rules C A) (meaning : D → Coils) (did : Did D) (n f : ℕ) (x : Inner A D C) (r : Answer) → r ≡ Err UnknownMotor → ((i : CoilId) → eqb n (number i) ≡ false) → Called k meaning did Running (report n f) x x r
 report_nobody k meaning did n f x r e none = untouched k meaning did Running (report n f) x r (e ∙ sym (by_no_number n (λ _. flags_answer f) (Err UnknownMotor) none))
-    (λ i. ap (lives k i (share k.kind meaning x i)) (none_for n i (reports f) (none i))) (λ i c w v. ap (points_after i c w v) (none_for n i (reports f) (none i))) (by_no_number n (λ i. note_calls i f) [] none)
+    (λ i. ap (lives k i (share k.kind meaning x i)) (cond-false (eqb n (number i)) (Some (reports f)) None (none i))) (λ i c w v. ap (points_after i c w v) (cond-false (eqb n (number i)) (Some (reports f)) None (none i))) (by_no_number n (λ i. note_calls i f) [] none)
 
 pub acknowledge_nobody : {C A D : Type 0} (k : Rules C A) (meaning : D → Coils) (did : Did D) (n : ℕ) (x : Inner A D C) (r : Answer) → r ≡ Err UnknownMotor → ((i : CoilId) → eqb n (number i) ≡ false) → Called k meaning did Running (acknowledgement n) x x r
 acknowledge_nobody k meaning did n x r e none = untouched k meaning did Running (acknowledgement n) x r (e ∙ sym (by_no_number n (λ _. Ok tt) (Err UnknownMotor) none))
-    (λ i. ap (lives k i (share k.kind meaning x i)) (none_for n i acknowledges (none i))) (λ i c w v. ap (points_after i c w v) (none_for n i acknowledges (none i))) (by_no_number n (λ i. on i Clear ∷ []) [] none)
+    (λ i. ap (lives k i (share k.kind meaning x i)) (cond-false (eqb n (number i)) (Some acknowledges) None (none i))) (λ i c w v. ap (points_after i c w v) (cond-false (eqb n (number i)) (Some acknowledges) None (none i))) (by_no_number n (λ i. on i Clear ∷ []) [] none)
 
 -- flags that there are not
 pub report_flags : {C A D : Type 0} (k : Rules C A) (meaning : D → Coils) (did : Did D) (i : CoilId) (n f : ℕ) (x : Inner A D C) → n ≡ number i → ltb f 16 ≡ false → Called k meaning did Running (report n f) x x (Err UnknownFlags)
