@@ -49,8 +49,7 @@ heard_setting {C} {A} k i s stage n v rs (Some r) e = by i r.setting (ap (λ p. 
     by : (i : CoilId) (t : Setting) → setting_answer k.kind stage (look_up k.lines n) (powered k.kind (at s i).own) v ≡ cond (is_open r.opened stage) (value_answer k.kind t (powered k.kind (at s i).own) v) (Err Closed) →
         heard_one (cond (concerns i t) (Some (sets stage n v)) None) (record { number = cond (is_open r.opened stage) (value_answer k.kind t (powered k.kind (set_motor t s.first.own s.second.own)) v) (Err Closed); bytes = None }) rs
         ≡ once k (at s i).own (cond (concerns i t) (Some (sets stage n v)) None) rs
-    by First Configuration q = ap (λ z. record { number = z; bytes = None } ∷ rs) (sym q)
-    by Second Configuration q = ap (λ z. record { number = z; bytes = None } ∷ rs) (sym q)
+    by i Configuration q = ap (λ z. record { number = z; bytes = None } ∷ rs) (sym q)
     by First (Current First which) q = ap (λ z. record { number = z; bytes = None } ∷ rs) (sym q)
     by First (Current Second which) q = refl
     by Second (Current First which) q = refl
