@@ -96,41 +96,26 @@ pub record Lawful {C A : Type 0} (k : Kind C A) : Type 0 where
   pub starts : k.current k.fresh ≡ Off
   pub rests : Rests k
 
-fine_report : {C A : Type 0} (k : Rules C A) (i : CoilId) (m : Standing C A) (b : Bool) (f w v : ℕ) → Fine k.kind m b → (t u x : Bool) → ltb f 16 ≡ t → tripped f ≡ u → tripped (noted m.own.flags f) ≡ x →
+fine_report : {C A : Type 0} (k : Rules C A) (i : CoilId) (m : Standing C A) (b : Bool) (f w v : ℕ) → Fine k.kind m b →
     Fine k.kind (record { own = after k i m.own (reports f); points = points_after i (coil m) w v (Some (reports f)) }) (quiet_after b (reports f))
-fine_report {C} {A} k i m b f w v s t u x te ue xe = record {
+fine_report k i m b f w v s = record {
   sane = s.sane;
-  enough = subst Enough (ap (λ z. cond z (cond (tripped f) false b) b) (sym te)) (subst Points (ap (λ z. cond z (cond (tripped (noted m.own.flags f)) 0 m.points) m.points) (sym te)) (enough t u x te ue xe));
-  rests = subst Quiet (ap (λ z. cond z (cond (tripped f) false b) b) (sym te)) (subst Flags (ap (λ z. cond z (noted m.own.flags f) m.own.flags) (sym te)) (rests t u te ue));
+  enough = enough (ltb f 16) (tripped f) (tripped (noted m.own.flags f)) refl refl refl;
+  rests = rests (ltb f 16) (tripped f) refl refl;
 }
   where
     want : ℕ
     want = wanted k.kind m.own
 
-    Points : ℕ → Type 0
-    Points p = cond t (cond (tripped f) false b) b ≡ true → min 100 want ≤ p
-
-    Enough : Bool → Type 0
-    Enough z = z ≡ true → min 100 want ≤ points_after i (coil m) w v (Some (reports f))
-
-    enough : (t u x : Bool) → ltb f 16 ≡ t → tripped f ≡ u → tripped (noted m.own.flags f) ≡ x → cond t (cond (tripped f) false b) b ≡ true → min 100 want ≤ cond t (cond (tripped (noted m.own.flags f)) 0 m.points) m.points
-    enough true true x te ue xe q = let no : false ≡ true = rw ue at q in cc
-    enough true false true te ue xe q =
-        let bt : b ≡ true = sym (ap (λ z. cond z false b) ue) ∙ q in
-        let none : want ≡ 0 = s.rests bt (report_tripped m.own.flags f (ltb-true f 16 te) xe ue) in
-        omega (arith, none)
-    enough true false false te ue xe q = subst (λ z. min 100 want ≤ cond z 0 m.points) (sym xe) (s.enough (sym (ap (λ z. cond z false b) ue) ∙ q))
+    enough : (t u x : Bool) → ltb f 16 ≡ t → tripped f ≡ u → tripped (noted m.own.flags f) ≡ x → cond t (cond u false b) b ≡ true → min 100 want ≤ cond t (cond x 0 m.points) m.points
+    enough true true x te ue xe q = cc
+    enough true false true te ue xe q = let none : want ≡ 0 = s.rests q (report_tripped m.own.flags f (ltb-true f 16 te) xe ue) in omega (arith, none)
+    enough true false false te ue xe q = s.enough q
     enough false u x te ue xe q = s.enough q
 
-    Flags : ℕ → Type 0
-    Flags g = cond t (cond (tripped f) false b) b ≡ true → tripped g ≡ true → want ≡ 0
-
-    Quiet : Bool → Type 0
-    Quiet z = z ≡ true → tripped (after k i m.own (reports f)).flags ≡ true → want ≡ 0
-
-    rests : (t u : Bool) → ltb f 16 ≡ t → tripped f ≡ u → cond t (cond (tripped f) false b) b ≡ true → tripped (cond t (noted m.own.flags f) m.own.flags) ≡ true → want ≡ 0
-    rests true true te ue q y = let no : false ≡ true = rw ue at q in cc
-    rests true false te ue q y = s.rests (sym (ap (λ z. cond z false b) ue) ∙ q) (report_tripped m.own.flags f (ltb-true f 16 te) y ue)
+    rests : (t u : Bool) → ltb f 16 ≡ t → tripped f ≡ u → cond t (cond u false b) b ≡ true → tripped (cond t (noted m.own.flags f) m.own.flags) ≡ true → want ≡ 0
+    rests true true te ue q y = cc
+    rests true false te ue q y = s.rests q (report_tripped m.own.flags f (ltb-true f 16 te) y ue)
     rests false u te ue q y = s.rests q y
 
 fine_after : {C A : Type 0} (k : Rules C A) (i : CoilId) (m : Standing C A) (b : Bool) (d : Deed) (w v : ℕ) → Lawful k.kind → Fine k.kind m b → min 100 (wanted k.kind (after k i m.own d)) ≤ granted i w v →
@@ -149,7 +134,7 @@ fine_after k i m b (moves orders) w v law s g = record {
   rests = λ _ t. ap (λ c. chosen c m.own.currents) (law.rests m.own.config m.own.axis (record { count = m.own.count; flags = m.own.flags }) orders t);
 }
 fine_after k i m b (misses n l) w v law s g = s
-fine_after k i m b (reports f) w v law s g = fine_report k i m b f w v s (ltb f 16) (tripped f) (tripped (noted m.own.flags f)) refl refl refl
+fine_after k i m b (reports f) w v law s g = fine_report k i m b f w v s
 fine_after k i m b acknowledges w v law s g = record { sane = s.sane; enough = s.enough; rests = λ q t. s.rests q (clear_tripped m.own.flags t) }
 
 abbrev calmed : Bool → Option Deed → Bool

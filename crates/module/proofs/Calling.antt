@@ -7,14 +7,14 @@ use Rattle.coil.proofs.Numbered.{by_no_number, by_own_number}
 use Rattle.coil.specs.Chains.{Chain, Did, on}
 use Rattle.coil.specs.Numbers.{number}
 use Rattle.coil.specs.Coils.{at, at_put, at_put_other, put}
-use Rattle.coil.specs.Meaning.{Coil, Coils, acknowledged, noted, reported, tripped}
+use Rattle.coil.specs.Meaning.{Coil, Coils, acknowledged, noted, reported}
 use Rattle.coil.specs.declared.CoilCall.TheVariants.{Clear, Note}
 use Rattle.coil.specs.declared.CoilId.{CoilId}
 use Rattle.coil.specs.declared.CoilId.TheVariants.{First, Second}
 use Rattle.module.proofs.Setting.{either_way, no_refusal}
 use Rattle.module.proofs.Turns.{same_share}
 use Rattle.module.specs.Called.{Adjusted, Called, Filled, Moved, Shared}
-use Rattle.module.specs.Effects.{Answer, Asked, Deed, acknowledgement, acknowledges, addressee, after, answer, adjusted, calls, concerns, configured, cycle, cycle_calls, cycle_deed, deed, feeds, flags_answer, in_range, half, length_answer, lives, misses, motor_deed, move_calls, moved_share, moves, note_calls, points_after, report, reports, set_deed, set_motor, set_share, sets, setting, setting_answer, value_answer, with_config, with_currents}
+use Rattle.module.specs.Effects.{Answer, Asked, Deed, acknowledgement, acknowledges, addressee, after, answer, adjusted, calls, concerns, cycle, cycle_calls, cycle_deed, deed, feeds, flags_answer, in_range, half, length_answer, lives, misses, motor_deed, move_calls, moved_share, moves, note_calls, points_after, report, reports, set_deed, set_motor, set_share, sets, setting, setting_answer, value_answer, with_config, with_currents}
 use Rattle.module.specs.Share.{Rules, Share, motor_at, powered, share, share_of, wanted}
 use Rattle.module.specs.declared.inner.Inner.{Inner}
 use Rattle.refusal.specs.declared.Refusal.{Refusal}
@@ -25,7 +25,7 @@ use Rattle.registers.specs.declared.Setting.{Setting}
 use Rattle.registers.specs.declared.Setting.TheVariants.{Configuration, Current}
 use Rattle.registers.specs.declared.Stage.{Stage}
 use Rattle.registers.specs.declared.Stage.TheVariants.{Running}
-use Rattle.std.proofs.lemmas.Bool.{cond-false, cond_both}
+use Rattle.std.proofs.lemmas.Bool.{cond-false, cond-true, cond_both}
 use Rattle.supply.specs.Shares.{granted}
 
 abbrev with_driver : {C A D : Type 0} → Inner A D C → D → Inner A D C
@@ -90,11 +90,11 @@ called_report {C} {A} {D} k meaning did i n f x e is low coils c =
     let b : Coil = at (meaning x.driver) i in
     subst P (sym is) (called_motor k meaning did (report (number i) f) (reports f) i x e (reported b f)
     (own_deed i (reports f)) (λ j ne. other_deed i j (reports f) ne)
-    (ap (λ t. cond t (Ok tt) (Err UnknownFlags)) (sym low) ∙ sym (by_own_number i (λ _. flags_answer f) (Err UnknownMotor)))
+    (sym (cond-true _ _ _ low) ∙ sym (by_own_number i (λ _. flags_answer f) (Err UnknownMotor)))
     coils
     (ap (λ t. share_of h.config (motor_at k.kind x.motors i) h.cycles (record (reported b f) { flags = cond t (noted b.flags f) b.flags })) (sym low))
-    (λ w v. ap (λ t. cond t (cond (tripped (noted b.flags f)) 0 b.points) b.points) (sym low))
-    (subst (λ z. Chain did x.driver z e) (ap (λ t. cond t (on i (Note f) ∷ []) []) (sym low) ∙ sym (by_own_number i (λ j. note_calls j f) [])) (e, (c, refl))))
+    (λ w v. sym (cond-true _ _ _ low))
+    (subst (λ z. Chain did x.driver z e) (sym (cond-true _ _ _ low) ∙ sym (by_own_number i (λ j. note_calls j f) [])) (e, (c, refl))))
 
 pub called_acknowledge : {C A D : Type 0} (k : Rules C A) (meaning : D → Coils) (did : Did D) (i : CoilId) (n : ℕ) (x : Inner A D C) (e : D) → n ≡ number i →
     meaning e ≡ put (meaning x.driver) i (acknowledged (at (meaning x.driver) i)) → did x.driver (on i Clear) e → Called k meaning did Running (acknowledgement n) x (with_driver x e) (Ok tt)
@@ -132,12 +132,12 @@ pub report_flags : {C A D : Type 0} (k : Rules C A) (meaning : D → Coils) (did
 report_flags {C} {A} {D} k meaning did i n f x is high =
     let P : ℕ → Type 0 = λ m. Called k meaning did Running (report m f) x x (Err UnknownFlags) in
     subst P (sym is) (untouched k meaning did Running (report (number i) f) x (Err UnknownFlags)
-    (ap (λ t. cond t (Ok tt) (Err UnknownFlags)) (sym high) ∙ sym (by_own_number i (λ _. flags_answer f) (Err UnknownMotor)))
+    (sym (cond-false _ _ _ high) ∙ sym (by_own_number i (λ _. flags_answer f) (Err UnknownMotor)))
     (λ j. cond_both (eqb (number i) (number j)) (Some (reports f)) None (λ o. lives k j (share k.kind meaning x j) o ≡ share k.kind meaning x j)
     (λ _. ap (λ t. with_flags (share k.kind meaning x j) (cond t (noted (share k.kind meaning x j).flags f) (share k.kind meaning x j).flags)) high) (λ _. refl))
     (λ j c w v. cond_both (eqb (number i) (number j)) (Some (reports f)) None (λ o. points_after j c w v o ≡ c.points)
-    (λ _. ap (λ t. cond t (cond (tripped (noted c.flags f)) 0 c.points) c.points) high) (λ _. refl))
-    (by_own_number i (λ j. note_calls j f) [] ∙ ap (λ t. cond t (on i (Note f) ∷ []) []) high))
+    (λ _. cond-false _ _ _ high) (λ _. refl))
+    (by_own_number i (λ j. note_calls j f) [] ∙ cond-false _ _ _ high))
 
 -- cycles
 
@@ -180,15 +180,15 @@ missed k meaning did x orders room e num deeds none = untouched k meaning did Ru
 
 pub record_length : {C A D : Type 0} (k : Rules C A) (meaning : D → Coils) (did : Did D) (x : Inner A D C) (orders : List ℕ) (room : ℕ) (r : Answer) → r ≡ Err RecordLength → eqb (length orders) 16 ≡ false → Called k meaning did Running (cycle orders room) x x r
 record_length k meaning did x orders room r e p = subst (Called k meaning did Running (cycle orders room) x x) (sym e) (missed k meaning did x orders room RecordLength
-    (ap (λ t. cond t (cond (eqb room 16) (Ok tt) (Err AnswerLength)) (Err RecordLength)) (sym p))
-    (λ i. ap (λ t. cond t (cond (eqb room 16) (moves (half i orders)) (misses (length orders) room)) (misses (length orders) room)) p)
-    (ap (λ t. cond t (cond (eqb room 16) (cycle_calls k (share k.kind meaning x First) (share k.kind meaning x Second) orders) []) []) p))
+    (sym (cond-false _ _ _ p))
+    (λ i. cond-false _ _ _ p)
+    (cond-false _ _ _ p))
 
 pub answer_length : {C A D : Type 0} (k : Rules C A) (meaning : D → Coils) (did : Did D) (x : Inner A D C) (orders : List ℕ) (room : ℕ) → eqb (length orders) 16 ≡ true → eqb room 16 ≡ false → Called k meaning did Running (cycle orders room) x x (Err AnswerLength)
 answer_length k meaning did x orders room p q = missed k meaning did x orders room AnswerLength
-    (ap (λ t. cond t (Ok tt) (Err AnswerLength)) (sym q) ∙ ap (λ t. cond t (cond (eqb room 16) (Ok tt) (Err AnswerLength)) (Err RecordLength)) (sym p))
-    (λ i. ap (λ t. cond t (cond (eqb room 16) (moves (half i orders)) (misses (length orders) room)) (misses (length orders) room)) p ∙ ap (λ t. cond t (moves (half i orders)) (misses (length orders) room)) q)
-    (ap (λ t. cond t (cond (eqb room 16) (cycle_calls k (share k.kind meaning x First) (share k.kind meaning x Second) orders) []) []) p ∙ ap (λ t. cond t (cycle_calls k (share k.kind meaning x First) (share k.kind meaning x Second) orders) []) q)
+    (sym (cond-false _ _ _ q) ∙ sym (cond-true _ _ _ p))
+    (λ i. cond-true _ _ _ p ∙ cond-false _ _ _ q)
+    (cond-true _ _ _ p ∙ cond-false _ _ _ q)
 
 -- settings
 
@@ -235,11 +235,11 @@ unfolding set_lived
 closed k stage r i h v e = cond_both (concerns i r.setting) (set_share k stage (Some r) h v) h (λ z. h ≡ z) (λ _. still) (λ _. refl)
   where
     still : h ≡ set_share k stage (Some r) h v
-    still = same_share h (set_share k stage (Some r) h v) (ap (λ t. cond t (configured k r.setting h.config v) h.config) (sym e)) refl (ap (λ t. cond t (adjusted r.setting (powered k h) h.currents v) h.currents) (sym e)) refl refl refl refl
+    still = same_share h (set_share k stage (Some r) h v) (sym (cond-false _ _ _ e)) refl (sym (cond-false _ _ _ e)) refl refl refl refl
 
 pub set_closed : {C A D : Type 0} (k : Rules C A) (meaning : D → Coils) (did : Did D) (stage : Stage) (n : ℕ) (v : ℤ) (x : Inner A D C) (r : Register) → look_up k.lines n ≡ Some r → is_open r.opened stage ≡ false → Called k meaning did stage (setting n v) x x (Err Closed)
 set_closed k meaning did stage n v x r e c = called_set k meaning did stage n v x x (Err Closed) (Some r) e
-    (ap (λ t. cond t (value_answer k.kind r.setting (powered k.kind (set_motor r.setting (share k.kind meaning x First) (share k.kind meaning x Second))) v) (Err Closed)) (sym c))
+    (sym (cond-false _ _ _ c))
     (λ i. closed k.kind stage r i (share k.kind meaning x i) v c) refl (λ _. refl)
 
 -- the register that was found, by what it sets
@@ -253,9 +253,9 @@ unfolding set_lived
 set_config {C} {A} {D} k meaning did stage n v x y a r e is opens num after =
     let config : C = unwrap_or (k.kind.config v) x.configuration.model in
     called_set k meaning did stage n v x y a (Some (record { setting = Configuration; opened = r.opened })) (found_as (look_up k.lines n) r Configuration e is)
-    (num ∙ ap (λ t. cond t (in_range (k.kind.config v) (Ok tt)) (Err Closed)) (sym opens))
+    (num ∙ sym (cond-true _ _ _ opens))
     (λ i. ap (λ z. share k.kind meaning z i) after ∙ same_share (share k.kind meaning (with_config x config) i) (set_share k.kind stage (Some (record { setting = Configuration; opened = r.opened })) (share k.kind meaning x i) v)
-    (ap (λ t. cond t config x.configuration.model) (sym opens)) refl (sym (either_way (is_open r.opened stage) (share k.kind meaning x i).currents)) refl refl refl refl)
+    (sym (cond-true _ _ _ opens)) refl (sym (either_way (is_open r.opened stage) (share k.kind meaning x i).currents)) refl refl refl refl)
     (ap (λ z. z.driver) after) (refused (k.kind.config v) num after)
   where
     refused : (o : Option C) → a ≡ in_range o (Ok tt) → y ≡ with_config x (unwrap_or o x.configuration.model) → is_err a ≡ true → y ≡ x
@@ -269,7 +269,7 @@ set_motor_current {C} {A} {D} k meaning did stage n v x y a r i which e is opens
     let s : Setting = Current i which in
     let o : Option Register = Some (record { setting = s; opened = r.opened }) in
     called_set k meaning did stage n v x y a o (found_as (look_up k.lines n) r s e is)
-    (t.number ∙ ap (λ h. value_answer k.kind s (powered k.kind h) v) (whose i) ∙ ap (λ b. cond b (value_answer k.kind s (powered k.kind (set_motor s (share k.kind meaning x First) (share k.kind meaning x Second))) v) (Err Closed)) (sym opens))
+    (t.number ∙ ap (λ h. value_answer k.kind s (powered k.kind h) v) (whose i) ∙ sym (cond-true _ _ _ opens))
     (λ j. t.motors j ∙ so j (share k.kind meaning x j) (concerns j s)) t.driver t.refused
   where
     whose : (i : CoilId) → share k.kind meaning x i ≡ set_motor (Current i which) (share k.kind meaning x First) (share k.kind meaning x Second)
@@ -278,7 +278,7 @@ set_motor_current {C} {A} {D} k meaning did stage n v x y a r i which e is opens
 
     so : (j : CoilId) (h : Share C A) (b : Bool) → with_currents h (cond b (adjusted (Current i which) (powered k.kind h) h.currents v) h.currents) ≡ cond b (set_share k.kind stage (Some (record { setting = Current i which; opened = r.opened })) h v) h
     so j h true = same_share (with_currents h (adjusted (Current i which) (powered k.kind h) h.currents v)) (set_share k.kind stage (Some (record { setting = Current i which; opened = r.opened })) h v)
-        (sym (either_way (is_open r.opened stage) h.config)) refl (ap (λ b. cond b (adjusted (Current i which) (powered k.kind h) h.currents v) h.currents) (sym opens)) refl refl refl refl
+        (sym (either_way (is_open r.opened stage) h.config)) refl (sym (cond-true _ _ _ opens)) refl refl refl refl
     so j h false = refl
 
 -- the same, where the value came through its bits

@@ -18,6 +18,7 @@ use Rattle.module.specs.declared.motor.Motor.{Motor}
 use Rattle.refusal.specs.declared.Refusal.{Refusal}
 use Rattle.refusal.specs.declared.Refusal.TheVariants.{MotorPowered, OutOfRange}
 use Rattle.registers.specs.declared.Setting.TheVariants.{Current}
+use Rattle.std.proofs.lemmas.Bool.{cond-false, cond-true}
 
 pub either_way : {X : Type 0} (b : Bool) (x : X) → cond b x x ≡ x
 either_way true x = refl
@@ -44,7 +45,7 @@ no_refusal e = cc
 
 pub still_powered : {C A D : Type 0} (k : Kind C A) (meaning : D → Coils) (i : CoilId) (which : CurrentSetting) (v : ℤ) (n : ℕ) (x : Inner A D C) → points_from v ≡ Some n → powered k (share k meaning x i) ≡ true → Adjusted k meaning i which v x x (Err MotorPowered)
 still_powered k meaning i which v n x e p = record {
-  number = ap (λ b. cond b (Err MotorPowered) (Ok tt)) (sym p) ∙ ap (λ o. in_range o (cond (powered k (share k meaning x i)) (Err MotorPowered) (Ok tt))) (sym e);
+  number = sym (cond-true _ _ _ p) ∙ ap (λ o. in_range o (cond (powered k (share k meaning x i)) (Err MotorPowered) (Ok tt))) (sym e);
   motors = λ j. unchanged k i j which v (share k meaning x j) (λ same. ap (λ b. cond b (share k meaning x j).currents (with_points (share k meaning x j).currents which (points_from v))) (ap (λ z. powered k (share k meaning x z)) (sym same) ∙ p));
   driver = refl;
   refused = λ _. refl;
@@ -69,7 +70,7 @@ set_current {C} {A} {D} k meaning i which v n p x m d e b pe h axis currents fau
     let other : (j : CoilId) → (i ≡ j → ⊥) → share k meaning y j ≡ share k meaning x j =
     λ j ne. ap (λ z. share_of x.configuration.model z x.cycles (at (meaning x.driver) j)) (ap (λ q. motor_at k (set x.motors q m) j) pe ∙ other_motor k i j x.motors m ne) in
     record {
-      number = ap (λ t. cond t (Err MotorPowered) (Ok tt)) (sym b) ∙ ap (λ o. in_range o (cond (powered k (share k meaning x i)) (Err MotorPowered) (Ok tt))) (sym e);
+      number = sym (cond-false _ _ _ b) ∙ ap (λ o. in_range o (cond (powered k (share k meaning x i)) (Err MotorPowered) (Ok tt))) (sym e);
       motors = λ j. by i j y own other;
       driver = refl;
       refused = no_refusal;
