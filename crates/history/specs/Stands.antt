@@ -1,5 +1,5 @@
 -- How a module stands after any list of calls, and what it tells of each. Assumes nothing.
-use Rattle.std.specs.Prelude.{ℕ, cond, List, [], ◌∷◌, ◌++◌, length, Some, None, Option, ◌==◌}
+use Rattle.std.specs.Prelude.{ℕ, List, [], ◌∷◌, ◌++◌, length, Some, None, Option}
 use Rattle.axis.specs.Kinds.{Kind}
 use Rattle.coil.specs.Coils.{at, both}
 use Rattle.coil.specs.Meaning.{Coil, Coils}
@@ -7,7 +7,7 @@ use Rattle.coil.specs.declared.CoilId.{CoilId}
 use Rattle.coil.specs.declared.CoilId.TheVariants.{First, Second}
 use Rattle.coil.specs.declared.DriverCall.{DriverCall}
 use Rattle.coil.specs.declared.per_coil.PerCoil.{PerCoil}
-use Rattle.module.specs.Effects.{Answer, Asked, acknowledgement, answer, calls, cycle, deed, half, lives, outcome, points_after, report, setting}
+use Rattle.module.specs.Effects.{Answer, Asked, acknowledgement, answer, calls, cycle, deed, half, lives, outcome, points_after, report, setting, where_sized}
 use Rattle.module.specs.Share.{Rules, Share, born, share, wanted}
 use Rattle.module.specs.declared.inner.Inner.{Inner}
 use Rattle.registers.specs.declared.Stage.{Stage}
@@ -63,7 +63,7 @@ pub record Told : Type 0 where
 
 abbrev pub given : {C A : Type 0} → Kind C A → CoilId → Share C A → Asked → Option (List ℕ)
 given k i h (setting n v) = None
-given k i h (cycle orders room) = cond (length orders == 16) (cond (room == 16) (Some (outcome k h (half i orders)).answer) None) None
+given k i h (cycle orders room) = where_sized (length orders) room (Some (outcome k h (half i orders)).answer) None
 given k i h (report n f) = None
 given k i h (acknowledgement n) = None
 

@@ -14,7 +14,7 @@ use Rattle.coil.specs.declared.CoilId.TheVariants.{First, Second}
 use Rattle.module.proofs.Setting.{either_way, no_refusal}
 use Rattle.module.proofs.Turns.{same_share}
 use Rattle.module.specs.Called.{Adjusted, Called, Filled, Moved, Shared}
-use Rattle.module.specs.Effects.{Answer, Asked, Deed, acknowledgement, acknowledges, addressee, after, answer, adjusted, calls, concerns, cycle, cycle_calls, cycle_deed, deed, feeds, flags_answer, in_range, half, length_answer, lives, misses, motor_deed, move_calls, moved_share, moves, note_calls, points_after, report, reports, set_deed, set_motor, set_share, sets, setting, setting_answer, value_answer, with_config, with_currents}
+use Rattle.module.specs.Effects.{Answer, Asked, Deed, acknowledgement, acknowledges, addressee, after, answer, adjusted, calls, concerns, cycle, cycle_calls, cycle_deed, deed, feeds, flags_answer, in_range, half, length_answer, lives, misses, motor_deed, move_calls, moved_share, moves, note_calls, points_after, report, reports, set_deed, set_motor, set_share, sets, setting, setting_answer, value_answer, where_sized, with_config, with_currents}
 use Rattle.module.specs.Share.{Rules, Share, motor_at, powered, share, share_of, wanted}
 use Rattle.module.specs.declared.inner.Inner.{Inner}
 use Rattle.refusal.specs.declared.Refusal.{Refusal}
@@ -141,8 +141,8 @@ report_flags {C} {A} {D} k meaning did i n f x is high =
 
 -- cycles
 
-cycle_moves : (i : CoilId) (orders : List ℕ) (room : ℕ) → length orders ≡ 16 → room ≡ 16 → cycle_deed i orders room ≡ moves (half i orders)
-cycle_moves i orders room p q = ap (λ n. cond (eqb n 16) (cond (eqb room 16) (moves (half i orders)) (misses (length orders) room)) (misses (length orders) room)) p ∙ ap (λ n. cond (eqb n 16) (moves (half i orders)) (misses (length orders) room)) q
+sized : {X : Type 0} (n m : ℕ) (x y : X) → n ≡ 16 → m ≡ 16 → where_sized n m x y ≡ x
+sized n m x y p q = ap (λ k. where_sized k m x y) p ∙ ap (λ k. where_sized 16 k x y) q
 
 pub called_cycle : {C A D : Type 0} (k : Rules C A) (meaning : D → Coils) (did : Did D) (x y z : Inner A D C) (orders bytes : List ℕ) (room : ℕ) → length orders ≡ 16 → room ≡ 16 →
     Moved k.kind meaning did x y orders bytes → Shared k.kind meaning did y z → Called k meaning did Running (cycle orders room) x z (Ok tt)
@@ -153,17 +153,17 @@ called_cycle {C} {A} {D} k meaning did x y z orders bytes room p q m s =
     let w : (i : CoilId) → wanted k.kind (share k.kind meaning y i) ≡ wanted k.kind (moved_share k.kind i (share k.kind meaning x i) (half i orders)) = λ i. ap (wanted k.kind) (m.motors i) in
     record {
       number = ap (λ n. cond (eqb n 16) (Ok tt) (Err AnswerLength)) (sym q) ∙ ap (λ n. length_answer n room) (sym p);
-      motors = λ i. now i ∙ ap (λ d. lives k i (share k.kind meaning x i) (Some d)) (sym (cycle_moves i orders room p q));
+      motors = λ i. now i ∙ ap (λ d. lives k i (share k.kind meaning x i) (Some d)) (sym (sized (length orders) room (moves (half i orders)) (misses (length orders) room) p q));
       points = λ i. s.points i
           ∙ ap (λ v. granted i v (wanted k.kind (share k.kind meaning y Second))) (ap (wanted k.kind) (sym (s.motors First)))
           ∙ ap (λ v. granted i (wanted k.kind (share k.kind meaning z First)) v) (ap (wanted k.kind) (sym (s.motors Second)))
-          ∙ ap (λ d. points_after i (at (meaning x.driver) i) (wanted k.kind (share k.kind meaning z First)) (wanted k.kind (share k.kind meaning z Second)) (Some d)) (sym (cycle_moves i orders room p q));
+          ∙ ap (λ d. points_after i (at (meaning x.driver) i) (wanted k.kind (share k.kind meaning z First)) (wanted k.kind (share k.kind meaning z Second)) (Some d)) (sym (sized (length orders) room (moves (half i orders)) (misses (length orders) room) p q));
       driver = chain_join did x.driver y.driver z.driver (move_calls k.kind First h orders ++ move_calls k.kind Second g orders)
           (feeds (wanted k.kind (share k.kind meaning y First)) (wanted k.kind (share k.kind meaning y Second)))
           (calls k h g (cycle orders room)) m.driver s.driver
           (ap (λ v. (move_calls k.kind First h orders ++ move_calls k.kind Second g orders) ++ feeds v (wanted k.kind (share k.kind meaning y Second))) (w First)
           ∙ ap (λ v. (move_calls k.kind First h orders ++ move_calls k.kind Second g orders) ++ feeds (wanted k.kind (moved_share k.kind First h (half First orders))) v) (w Second)
-          ∙ ap (λ n. cond (eqb n 16) (cycle_calls k h g orders) []) (sym q) ∙ ap (λ n. cond (eqb n 16) (cond (eqb room 16) (cycle_calls k h g orders) []) []) (sym p));
+          ∙ sym (sized (length orders) room (cycle_calls k h g orders) [] p q));
       refused = no_refusal;
     }
 

@@ -164,8 +164,12 @@ abbrev pub half : CoilId → List ℕ → List ℕ
 half First bytes = take 8 bytes
 half Second bytes = drop 8 bytes
 
+-- x for a cycle whose record and answer buffer have 16 bytes each, else y
+abbrev pub where_sized : {X : Type 0} → ℕ → ℕ → X → X → X
+where_sized record_length answer_length x y = cond (record_length == 16) (cond (answer_length == 16) x y) y
+
 abbrev pub cycle_deed : CoilId → List ℕ → ℕ → Deed
-cycle_deed i orders room = cond (length orders == 16) (cond (room == 16) (moves (half i orders)) (misses (length orders) room)) (misses (length orders) room)
+cycle_deed i orders room = where_sized (length orders) room (moves (half i orders)) (misses (length orders) room)
 
 abbrev pub motor_deed : CoilId → ℕ → Deed → Option Deed
 motor_deed i n d = cond (n == number i) (Some d) None
@@ -221,7 +225,7 @@ note_calls i f = cond (nat_lt f 16) (on i (Note f) ∷ []) []
 
 abbrev pub calls : {C A : Type 0} → Rules C A → Share C A → Share C A → Asked → List DriverCall
 calls k h g (setting n v) = []
-calls k h g (cycle orders room) = cond (length orders == 16) (cond (room == 16) (cycle_calls k h g orders) []) []
+calls k h g (cycle orders room) = where_sized (length orders) room (cycle_calls k h g orders) []
 calls k h g (report n f) = by_number n (λ i. note_calls i f) []
 calls k h g (acknowledgement n) = by_number n (λ i. on i Clear ∷ []) []
 
