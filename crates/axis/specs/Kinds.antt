@@ -1,10 +1,11 @@
 -- What a kind of axis is, and what one cycle of it is. Assumes nothing.
-use Rattle.std.specs.Prelude.{◌≡◌, ℕ, List, map, ℤ, Option, Result}
+use Rattle.std.specs.Prelude.{◌≡◌, ℕ, true, List, map, ℤ, Option, Result}
 use Rattle.axis.specs.declared.currents.Current.{Current}
+use Rattle.axis.specs.declared.currents.Current.TheVariants.{Off}
 use Rattle.axis.specs.declared.AxisFault.{AxisFault}
 use Rattle.coil.specs.Chains.{Chain, Did, on}
 use Rattle.coil.specs.Coils.{at, put}
-use Rattle.coil.specs.Meaning.{Coil, Coils}
+use Rattle.coil.specs.Meaning.{Coil, Coils, tripped}
 use Rattle.coil.specs.declared.CoilCall.{CoilCall}
 use Rattle.coil.specs.declared.CoilId.{CoilId}
 
@@ -39,9 +40,13 @@ pub record Kind (C A : Type 0) : Type 0 where
   -- one cycle, over eight bytes of orders
   pub cycle : C → A → Seen → List ℕ → Outcome A
 
+-- after a cycle an axis on a tripped coil chooses no current
+abbrev pub Rests : {C A : Type 0} → Kind C A → Type 0
+Rests {C} {A} k = (config : C) (x : A) (s : Seen) (orders : List ℕ) → tripped (k.cycle config x s orders).flags ≡ true → k.current (k.cycle config x s orders).axis ≡ Off
+
 -- the coil after a cycle
 abbrev pub moved : {A : Type 0} → Coil → Outcome A → Coil
-moved c o = record { count = o.count; points = c.points; flags = o.flags }
+moved c o = record c { count = o.count; flags = o.flags }
 
 -- one cycle of an axis on the coil i: a and d become a' and d', and o is what the kind makes of them
 pub record Cycled {A D : Type 0} (meaning : D → Coils) (did : Did D) (i : CoilId) (o : Outcome A) (a' : A) (d d' : D) (answer : List ℕ) (ended : Result (Unit {0}) AxisFault) : Type 0 where

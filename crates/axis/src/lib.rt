@@ -1,12 +1,11 @@
 // What every kind of axis is: one motor on one coil, driven by eight bytes a cycle.
 #![tactic(auto)]
 
-ghost use Rattle.std.specs.Prelude.{◌≡◌, ℕ, true, List, ok_or};
-ghost use Rattle.axis.specs.Kinds.{Cycled, Kind, Seen, seen};
+ghost use Rattle.std.specs.Prelude.{◌≡◌, ok_or};
+ghost use Rattle.axis.specs.Kinds.{Cycled, Kind, Rests, seen};
 ghost use Rattle.axis.specs.declared.AxisFault.TheVariants.{Coil};
 ghost use Rattle.axis.specs.declared.currents.Current.TheVariants.{Off};
 ghost use Rattle.coil.specs.Coils.{at};
-ghost use Rattle.coil.specs.Meaning.{tripped};
 
 use coil::{CoilDriver, CoilFault, CoilId, OutOfRange};
 
@@ -66,7 +65,7 @@ pub trait Axis: Drop {
         ensures { Cycled D.CoilDriver.meaning D.CoilDriver.did coil (kind.cycle config self.old (seen (at (D.CoilDriver.meaning driver.old) coil)) orders.now) self.new driver.old driver.new answer.new result };
 
     // after a cycle an axis on a tripped coil chooses no current
-    ghost rests: { (config : Self.Config) (x : Self) (s : Seen) (orders : List ℕ) → tripped (kind.cycle config x s orders).flags ≡ true → kind.current (kind.cycle config x s orders).axis ≡ Off };
+    ghost rests: { Rests kind };
 
     ghost starts: { kind.current kind.fresh ≡ Off };
 }

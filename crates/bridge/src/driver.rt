@@ -1,7 +1,7 @@
 // The bridge driver: two coils, and the levels of the two windings of each.
 ghost use Rattle.std.specs.Prelude.{◌≡◌};
 ghost use Rattle.coil.specs.Coils.{at};
-ghost use Rattle.coil.specs.Meaning.{new_coil};
+ghost use Rattle.coil.specs.Meaning.{new_coils};
 ghost use Rattle.bridge.specs.Bridged.{bridge_meaning};
 ghost use Rattle.bridge.specs.Wave.{OnCircle, levels_at};
 ghost use Rattle.std.proofs.Common.{rules};
@@ -17,7 +17,7 @@ pub struct BridgeDriver {
 impl BridgeDriver {
     // A driver with these counts, without current and without flags.
     pub fn new(first: u32, second: u32) -> BridgeDriver
-        ensures { bridge_meaning result ≡ record { first = new_coil first; second = new_coil second } }
+        ensures { bridge_meaning result ≡ new_coils first second }
     {
         BridgeDriver {
             coils: CoilPair::new(first, second),

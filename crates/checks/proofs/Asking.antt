@@ -1,8 +1,8 @@
 -- The calls of the two runs, and what the runs tell.
 use Rattle.std.proofs.Common.{◌≡◌, ℕ, List, [], ◌∷◌, ◌++◌, ◌+◌, map, cond, not, count_by, zero-add, Bool, true, Some, None, vec_items, Option, Vec, sym, refl, ap, ◌∙◌, subst}
 use Rattle.checks.specs.Bench.{bench, fresh, step_rules}
-use Rattle.checks.specs.Runs.{Shows, asked_in, bytes_of, calls_in, items_of, second_answer, trip_calls}
-use Rattle.coil.specs.Meaning.{new_coil, noted, tripped}
+use Rattle.checks.specs.Runs.{Shows, asked_in, calls_in, second_answer, trip_calls}
+use Rattle.coil.specs.Meaning.{new_coils, noted, tripped}
 use Rattle.coil.specs.Modulo.{modulo}
 use Rattle.drivers.specs.Pulsed.{Pulsed, pulse_meaning}
 use Rattle.drivers.specs.declared.pulse.PulseDriver.{PulseDriver}
@@ -16,7 +16,7 @@ use Rattle.module.specs.declared.inner.Inner.{Inner}
 use Rattle.refusal.specs.Numbers.{answer_number}
 use Rattle.std.proofs.lemmas.List.Sums.{sum_by-cons}
 use Rattle.std.specs.List.{zip}
-use Rattle.std.specs.Option.{option_map}
+use Rattle.std.specs.Option.{option_map, unwrap_or}
 use Rattle.std.specs.declared.alloc.Global.{Global}
 use Rattle.step_axis.specs.Taken.{step_kind}
 use Rattle.step_axis.specs.declared.StepAxis.{StepAxis}
@@ -45,7 +45,7 @@ none_answered : (ws : List Event) → Answered [] ws → ws ≡ []
 none_answered [] a = refl
 none_answered (w ∷ ws) a = absurd a
 
-run_calls : (o : Option (Vec (Entry Call) Global)) → operation (option_map (λ es. map operated (vec_items es)) o) ≡ map operated (items_of o)
+run_calls : (o : Option (Vec (Entry Call) Global)) → operation (option_map (λ es. map operated (vec_items es)) o) ≡ map operated (operation (option_map vec_items o))
 run_calls None = refl
 run_calls (Some v) = refl
 
@@ -53,11 +53,11 @@ numbers_told : (es : List (Entry Call)) → map (λ e. answer_number e.ended) es
 numbers_told [] = refl
 numbers_told (e ∷ es) = ap (λ ns. answer_number e.ended ∷ ns) (numbers_told es)
 
-answers_told : (es : List (Entry Call)) → map second_answer es ≡ map (λ t. bytes_of t.two) (tolds (map operated es))
+answers_told : (es : List (Entry Call)) → map second_answer es ≡ map (λ t. unwrap_or t.halves.second []) (tolds (map operated es))
 answers_told [] = refl
 answers_told (e ∷ es) = ap (λ bs. second_answer e ∷ bs) (answers_told es)
 
-module _ (flags : ℕ) (h : History) {d : PulseDriver} {g : History} {x : Inner StepAxis PulseDriver StepConfig} (made : pulse_meaning d ≡ record { first = new_coil 0; second = new_coil 0 }) (settings : vec_items h.preparation ≡ []) (calls : asked_in h ≡ trip_calls flags) (r : Ran step_rules pulse_meaning Pulsed d h g x) where
+module _ (flags : ℕ) (h : History) {d : PulseDriver} {g : History} {x : Inner StepAxis PulseDriver StepConfig} (made : pulse_meaning d ≡ new_coils 0 0) (settings : vec_items h.preparation ≡ []) (calls : asked_in h ≡ trip_calls flags) (r : Ran step_rules pulse_meaning Pulsed d h g x) where
   -- how the module stands at the end
   pub run_end : bench x ≡ stands step_rules (fresh 0 0) (trip_calls flags)
   unfolding asked_in fresh
@@ -75,5 +75,5 @@ module _ (flags : ℕ) (h : History) {d : PulseDriver} {g : History} {x : Inner 
   pub run_numbers : map (λ e. answer_number e.ended) (calls_in g) ≡ map (λ t. answer_number t.number) (tells step_rules (fresh 0 0) (trip_calls flags))
   run_numbers = numbers_told (calls_in g) ∙ ap (map (λ t. answer_number t.number)) run_told
 
-  pub run_answers : map second_answer (calls_in g) ≡ map (λ t. bytes_of t.two) (tells step_rules (fresh 0 0) (trip_calls flags))
-  run_answers = answers_told (calls_in g) ∙ ap (map (λ t. bytes_of t.two)) run_told
+  pub run_answers : map second_answer (calls_in g) ≡ map (λ t. unwrap_or t.halves.second []) (tells step_rules (fresh 0 0) (trip_calls flags))
+  run_answers = answers_told (calls_in g) ∙ ap (map (λ t. unwrap_or t.halves.second [])) run_told

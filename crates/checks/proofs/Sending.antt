@@ -1,11 +1,11 @@
 -- One cycle with a word for each motor, as a step from stand to stand.
 use Rattle.std.proofs.Common.{◌≡◌, ℕ, true, List, ◌++◌, drop, pos, is_ok, sym, ap, ◌∙◌, subst, take-append-drop}
 use Rattle.checks.specs.Bench.{answer_to, bench, fresh, prepared, sent, step_rules, word_record}
-use Rattle.coil.specs.Meaning.{new_coil}
+use Rattle.coil.specs.Meaning.{new_coils}
 use Rattle.coil.specs.declared.CoilId.TheVariants.{First, Second}
 use Rattle.drivers.specs.Pulsed.{Pulsed, pulse_meaning}
 use Rattle.drivers.specs.declared.pulse.PulseDriver.{PulseDriver}
-use Rattle.history.proofs.Calls.{called_stand, same_stand}
+use Rattle.history.proofs.Calls.{called_stand, made_stand}
 use Rattle.history.specs.Stands.{Stand, first_stand}
 use Rattle.module.specs.Called.{Called, Filled, Made}
 use Rattle.module.specs.Effects.{Answer, answer, cycle, half, outcome, setting}
@@ -24,17 +24,17 @@ sent_stand one two orders x y r e c =
 pub sent_answer : (one two : ℕ) (orders before bytes : List ℕ) (x : Inner StepAxis PulseDriver StepConfig) (r : Answer) → orders ≡ word_record one two → is_ok r ≡ true → Filled step_rules pulse_meaning x orders before bytes r → bytes ≡ answer_to one two (bench x)
 unfolding answer_to
 sent_answer one two orders before bytes x r e ok f =
-    sym (take-append-drop 8 bytes) ∙ ap (λ b. b ++ drop 8 bytes) (f.halves First ok) ∙ ap (λ b. (outcome step_kind (bench x).one.own (half First orders)).answer ++ b) (f.halves Second ok)
-    ∙ ap (λ os. (outcome step_kind (bench x).one.own (half First os)).answer ++ (outcome step_kind (bench x).two.own (half Second os)).answer) e
+    sym (take-append-drop 8 bytes) ∙ ap (λ b. b ++ drop 8 bytes) (f.halves First ok) ∙ ap (λ b. (outcome step_kind (bench x).first.own (half First orders)).answer ++ b) (f.halves Second ok)
+    ∙ ap (λ os. (outcome step_kind (bench x).first.own (half First os)).answer ++ (outcome step_kind (bench x).second.own (half Second os)).answer) e
 
-pub made_bench : (one two : ℕ) (d : PulseDriver) (x : Inner StepAxis PulseDriver StepConfig) → pulse_meaning d ≡ record { first = new_coil one; second = new_coil two } → Made step_kind pulse_meaning Pulsed d x → bench x ≡ fresh one two
+pub made_bench : (one two : ℕ) (d : PulseDriver) (x : Inner StepAxis PulseDriver StepConfig) → pulse_meaning d ≡ new_coils one two → Made step_kind pulse_meaning Pulsed d x → bench x ≡ fresh one two
 unfolding fresh
 made_bench one two d x e m =
-    same_stand (bench x) (first_stand step_kind (pulse_meaning d)) (m.motors First) (m.points First) (m.motors Second) (m.points Second) ∙ ap (first_stand step_kind) e
+    made_stand step_kind pulse_meaning Pulsed d x m ∙ ap (first_stand step_kind) e
 
 pub set_bench : (n v : ℕ) (x y : Inner StepAxis PulseDriver StepConfig) (r : Answer) → Called step_rules pulse_meaning Pulsed Preparation (setting n (pos v)) x y r → bench y ≡ prepared n v (bench x)
 unfolding prepared
 set_bench n v x y r c = called_stand step_rules pulse_meaning Pulsed Preparation (setting n (pos v)) x y r c
 
-pub set_number : (n v : ℕ) (s : Stand StepConfig StepAxis) (x y : Inner StepAxis PulseDriver StepConfig) (r : Answer) → bench x ≡ s → Called step_rules pulse_meaning Pulsed Preparation (setting n (pos v)) x y r → r ≡ answer step_rules Preparation s.one.own s.two.own (setting n (pos v))
-set_number n v s x y r e c = c.number ∙ ap (λ t. answer step_rules Preparation t.one.own t.two.own (setting n (pos v))) e
+pub set_number : (n v : ℕ) (s : Stand StepConfig StepAxis) (x y : Inner StepAxis PulseDriver StepConfig) (r : Answer) → bench x ≡ s → Called step_rules pulse_meaning Pulsed Preparation (setting n (pos v)) x y r → r ≡ answer step_rules Preparation s.first.own s.second.own (setting n (pos v))
+set_number n v s x y r e c = c.number ∙ ap (λ t. answer step_rules Preparation t.first.own t.second.own (setting n (pos v))) e

@@ -1,6 +1,6 @@
 -- A module on the bench: how it stands after what a check sends, and what its answers show. Assumes nothing.
 use Rattle.std.specs.Prelude.{ℕ, zero, suc, ◌+◌, ◌*◌, ◌/◌, ◌%◌, List, [], ◌∷◌, ◌++◌, replicate, pos, slice_index}
-use Rattle.coil.specs.Meaning.{new_coil}
+use Rattle.coil.specs.Meaning.{new_coils}
 use Rattle.coil.specs.declared.CoilId.{CoilId}
 use Rattle.coil.specs.declared.CoilId.TheVariants.{First, Second}
 use Rattle.drivers.specs.Pulsed.{pulse_meaning}
@@ -24,7 +24,7 @@ bench x = stand step_kind pulse_meaning x
 
 -- a module just made over a driver with these counts
 unfoldable pub fresh : ℕ → ℕ → Stand StepConfig StepAxis
-fresh one two = first_stand step_kind (record { first = new_coil one; second = new_coil two })
+fresh one two = first_stand step_kind (new_coils one two)
 
 -- a register set in preparation
 unfoldable pub prepared : ℕ → ℕ → Stand StepConfig StepAxis → Stand StepConfig StepAxis
@@ -49,7 +49,7 @@ unfoldable pub sent : ℕ → ℕ → Stand StepConfig StepAxis → Stand StepCo
 sent one two s = stand_after step_rules s (word_query one two)
 
 unfoldable pub answer_to : ℕ → ℕ → Stand StepConfig StepAxis → List ℕ
-answer_to one two s = (outcome step_kind s.one.own (half First (word_record one two))).answer ++ (outcome step_kind s.two.own (half Second (word_record one two))).answer
+answer_to one two s = (outcome step_kind s.first.own (half First (word_record one two))).answer ++ (outcome step_kind s.second.own (half Second (word_record one two))).answer
 
 -- after the same cycle so many times, and the last answer
 unfoldable pub sent_times : ℕ → ℕ → ℕ → Stand StepConfig StepAxis → Stand StepConfig StepAxis

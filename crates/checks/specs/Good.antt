@@ -11,11 +11,6 @@ use Rattle.checks.specs.declared.summary.Summary.{Summary}
 use Rattle.coil.specs.declared.CoilId.{CoilId}
 use Rattle.coil.specs.declared.CoilId.TheVariants.{First, Second}
 
--- the number of a motor
-abbrev pub motor_number : CoilId → ℕ
-motor_number First = 1
-motor_number Second = 2
-
 -- what a good module reads is what is read
 abbrev pub reads : Sent → CoilId → Quantity → ℕ → Reading
 reads sent motor quantity n = record { sent = sent; motor = motor; quantity = quantity; read = n; good = n }

@@ -1,6 +1,6 @@
 // What a check reads, beside what a good module reads.
 ghost use Rattle.std.specs.Prelude.{◌≡◌, ◌==◌};
-ghost use Rattle.checks.specs.Good.{motor_number};
+ghost use Rattle.coil.specs.Numbers.{number as number_of};
 
 use coil::CoilId;
 use std::fmt;
@@ -110,7 +110,7 @@ impl Reading {
 
 // A motor's number.
 fn number(motor: CoilId) -> u8
-    ensures { result ≡ motor_number motor }
+    ensures { result ≡ number_of motor }
 {
     match motor {
         CoilId::First => 1,

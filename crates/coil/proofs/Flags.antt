@@ -1,5 +1,6 @@
 -- Flags stay below 16, and clearing them trips no coil.
 use Rattle.std.proofs.Common.{◌≡◌, ℕ, ◌%◌, ◌<◌, Bool, true, false, cond, not, ◌||◌, eqb, sym, refl, ap, ◌∙◌, mod-eq_of_lt, arith, lit<}
+use Rattle.std.proofs.Math.Bool.{or-false}
 use Rattle.std.proofs.lemmas.Bool.{agree_below, agree_below_at}
 use lib.Bits.{bit_and, bit_or, and_le_r, and_mod, or_lt}
 use Rattle.coil.specs.Meaning.{tripped, noted, cleared}
@@ -38,11 +39,7 @@ all_untripped = refl
 noted_tripped : (f g : ℕ) → f < 16 → g < 16 → tripped (noted f g) ≡ true → tripped g ≡ false → tripped f ≡ true
 unfolding untripped stays_untripped
 noted_tripped f g a b e low =
-    sym (by (tripped f)) ∙ sym (ap (λ t. tripped f || t) low) ∙ sym (ap (λ t. cond t (tripped f || tripped g) true) e) ∙ agree_below_at (stays_untripped f) (λ _. true) 16 g (agree_below_at untripped (λ _. true) 16 f all_untripped a) b
-  where
-    by : (t : Bool) → t || false ≡ t
-    by true = refl
-    by false = refl
+    sym (or-false (tripped f)) ∙ sym (ap (λ t. tripped f || t) low) ∙ sym (ap (λ t. cond t (tripped f || tripped g) true) e) ∙ agree_below_at (stays_untripped f) (λ _. true) 16 g (agree_below_at untripped (λ _. true) 16 f all_untripped a) b
 
 -- the same of flags of any size: only their low four bits count
 low_bits : (f m : ℕ) → m < 16 → bit_and f m ≡ bit_and (f % 16) m

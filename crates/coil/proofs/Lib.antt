@@ -1,3 +1,4 @@
 pub mod Wraps
 pub mod Chained
 pub mod Flags
+pub mod Numbered

@@ -1,5 +1,6 @@
 -- One value for each of the two coils. Assumes nothing.
 use Rattle.std.specs.Prelude.{◌≡◌, refl}
+use Rattle.std.proofs.Common.{ap, ◌∙◌}
 use Rattle.coil.specs.declared.CoilId.{CoilId}
 use Rattle.coil.specs.declared.CoilId.TheVariants.{First, Second}
 use Rattle.coil.specs.declared.per_coil.PerCoil.{PerCoil}
@@ -11,8 +12,19 @@ at c Second = c.second
 
 -- the values with another one for the coil i
 abbrev pub put : {T : Type 0} → PerCoil T → CoilId → T → PerCoil T
-put c First x = record { first = x; second = c.second }
-put c Second x = record { first = c.first; second = x }
+put c First x = record c { first = x }
+put c Second x = record c { second = x }
+
+-- the values of a function at both coils
+abbrev pub both : {T : Type 0} → (CoilId → T) → PerCoil T
+both f = record { first = f First; second = f Second }
+
+pub at_both : {T : Type 0} (f : CoilId → T) (i : CoilId) → at (both f) i ≡ f i
+at_both f First = refl
+at_both f Second = refl
+
+pub same_both : {T : Type 0} (f g : CoilId → T) → ((i : CoilId) → f i ≡ g i) → both f ≡ both g
+same_both f g same = ap (λ x. record { first = x; second = f Second }) (same First) ∙ ap (λ x. record { first = g First; second = x }) (same Second)
 
 pub put_same : {T : Type 0} (c : PerCoil T) (i : CoilId) → put c i (at c i) ≡ c
 put_same c First = refl

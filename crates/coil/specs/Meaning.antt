@@ -40,19 +40,19 @@ declines_feed flags points = tripped flags && not (points == 0)
 
 -- a coil after each of the four calls, declined or not
 abbrev pub with_count : Coil → ℕ → Coil
-with_count c n = record { count = n; points = c.points; flags = c.flags }
+with_count c n = record c { count = n }
 
 abbrev pub advanced : Coil → ℤ → Coil
 advanced c steps = with_count c (cond (declines_advance c.flags steps) c.count (stepped c.count steps))
 
 abbrev pub fed : Coil → ℕ → Coil
-fed c points = record { count = c.count; points = cond (declines_feed c.flags points) c.points points; flags = c.flags }
+fed c points = record c { points = cond (declines_feed c.flags points) c.points points }
 
 abbrev pub reported : Coil → ℕ → Coil
-reported c flags = record { count = c.count; points = cond (tripped (noted c.flags flags)) 0 c.points; flags = noted c.flags flags }
+reported c flags = record c { points = cond (tripped (noted c.flags flags)) 0 c.points; flags = noted c.flags flags }
 
 abbrev pub acknowledged : Coil → Coil
-acknowledged c = record { count = c.count; points = c.points; flags = cleared c.flags }
+acknowledged c = record c { flags = cleared c.flags }
 
 -- the answer to a call: a decline is a fault with the flags that stand
 abbrev pub answered : Bool → ℕ → Result (Unit {0}) CoilFault
@@ -68,3 +68,7 @@ pub record Sound (c : Coil) : Type 0 where
 -- a coil as a driver is made: without current and without flags
 abbrev pub new_coil : ℕ → Coil
 new_coil count = record { count = count; points = 0; flags = 0 }
+
+-- the coils of a driver as it is made, with these counts
+abbrev pub new_coils : ℕ → ℕ → Coils
+new_coils one two = record { first = new_coil one; second = new_coil two }

@@ -1,7 +1,7 @@
 // A plain driver: two coils and nothing more. Other drivers hold it and add what they tell.
 ghost use Rattle.std.specs.Prelude.{◌≡◌, true};
 ghost use Rattle.coil.specs.Kept.{coil_of, coils_of};
-ghost use Rattle.coil.specs.Meaning.{tripped, declines_advance, declines_feed, advanced, fed, reported, acknowledged, answered, new_coil};
+ghost use Rattle.coil.specs.Meaning.{tripped, declines_advance, declines_feed, advanced, fed, reported, acknowledged, answered, new_coil, new_coils};
 ghost use Rattle.std.proofs.Common.{rules};
 
 use crate::state::CoilState;
@@ -86,7 +86,7 @@ pub struct CoilPair {
 impl CoilPair {
     // Two coils at these counts, without current and without flags.
     pub fn new(first: u32, second: u32) -> CoilPair
-        ensures { coils_of result ≡ record { first = new_coil first; second = new_coil second } }
+        ensures { coils_of result ≡ new_coils first second }
     {
         CoilPair {
             coils: PerCoil {

@@ -1,8 +1,8 @@
 // The pulse driver: two coils, and the pulses of each coil's latest accepted advance.
 ghost use Rattle.std.specs.Prelude.{◌≡◌};
-ghost use Rattle.coil.specs.Meaning.{new_coil};
-ghost use Rattle.coil.specs.declared.CoilId.TheVariants.{First, Second};
-ghost use Rattle.drivers.specs.Pulsed.{Pulsed, no_pulses, pulses_for, pulses_of, pulse_meaning};
+ghost use Rattle.coil.specs.Coils.{at, both};
+ghost use Rattle.coil.specs.Meaning.{new_coils};
+ghost use Rattle.drivers.specs.Pulsed.{Pulsed, no_pulses, pulses_for, pulse_meaning};
 ghost use Rattle.std.proofs.Common.{rules};
 
 use coil::{CoilDriver, CoilFault, CoilId, CoilPair, Direction, Microsteps, PerCoil, Points};
@@ -49,9 +49,8 @@ pub struct PulseDriver {
 impl PulseDriver {
     // A driver with these counts, without current, without flags, and with no advance yet.
     pub fn new(first: u32, second: u32) -> PulseDriver
-        ensures meaning { pulse_meaning result ≡ record { first = new_coil first; second = new_coil second } }
-        ensures first { pulses_of result First ≡ no_pulses }
-        ensures second { pulses_of result Second ≡ no_pulses }
+        ensures meaning { pulse_meaning result ≡ new_coils first second }
+        ensures pulses { result.pulses ≡ both (λ _. no_pulses) }
     {
         PulseDriver {
             coils: CoilPair::new(first, second),
@@ -64,7 +63,7 @@ impl PulseDriver {
 
     // Direction and number of pulses of the coil's latest accepted advance, both 0 before one.
     pub fn pulses(&self, coil: CoilId) -> Pulses
-        ensures { result ≡ pulses_of self.now coil }
+        ensures { result ≡ at self.now.pulses coil }
     {
         self.pulses[coil]
     }

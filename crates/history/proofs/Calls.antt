@@ -1,14 +1,15 @@
 -- One call of a module, as a step from stand to stand.
 use Rattle.std.proofs.Common.{◌≡◌, ℕ, Bool, true, false, cond, eqb, List, [], length, ℤ, is_ok, Some, None, Ok, Err, sym, refl, ap, ◌∙◌, subst}
+use Rattle.axis.specs.Kinds.{Kind}
 use Rattle.coil.specs.Chains.{Did}
-use Rattle.coil.specs.Coils.{at}
+use Rattle.coil.specs.Coils.{at, at_both, both, same_both}
 use Rattle.coil.specs.Meaning.{Coils}
 use Rattle.coil.specs.declared.CoilId.{CoilId}
 use Rattle.coil.specs.declared.CoilId.TheVariants.{First, Second}
 use Rattle.history.specs.Lists.{half_told}
 use Rattle.history.specs.Ran.{Once}
-use Rattle.history.specs.Stands.{Query, Stand, given, share_after, stand, stand_after}
-use Rattle.module.specs.Called.{Called, Filled}
+use Rattle.history.specs.Stands.{first_stand, first_standing, Query, Stand, Standing, coil, given, share_after, stand, stand_after, standing, standing_after, wanted_after}
+use Rattle.module.specs.Called.{Called, Filled, Made}
 use Rattle.module.specs.Effects.{Answer, Asked, answer, cycle, deed, half, length_answer, outcome, points_after, setting}
 use Rattle.module.specs.Share.{Rules, Share, share, wanted}
 use Rattle.module.specs.declared.inner.Inner.{Inner}
@@ -16,24 +17,25 @@ use Rattle.refusal.specs.declared.Refusal.TheVariants.{AnswerLength, RecordLengt
 use Rattle.registers.specs.declared.Stage.{Stage}
 use Rattle.registers.specs.declared.Stage.TheVariants.{Running}
 
-pub same_stand : {C A : Type 0} (s t : Stand C A) → s.one.own ≡ t.one.own → s.one.points ≡ t.one.points → s.two.own ≡ t.two.own → s.two.points ≡ t.two.points → s ≡ t
-same_stand {C} {A} s t a p b q =
-    let make : Share C A → ℕ → Share C A → ℕ → Stand C A = λ h m g n. record { one = record { own = h; points = m }; two = record { own = g; points = n } } in
-    ap (λ z. make z s.one.points s.two.own s.two.points) a
-    ∙ ap (λ z. make t.one.own z s.two.own s.two.points) p
-    ∙ ap (λ z. make t.one.own t.one.points z s.two.points) b
-    ∙ ap (λ z. make t.one.own t.one.points t.two.own z) q
+-- two modules stand the same where each motor does
+same_stand : {C A : Type 0} (f g : CoilId → Standing C A) → ((i : CoilId) → (f i).own ≡ (g i).own) → ((i : CoilId) → (f i).points ≡ (g i).points) → both f ≡ both g
+same_stand f g own points = same_both f g (λ i. ap (λ h. record { own = h; points = (f i).points }) (own i) ∙ ap (λ n. record { own = (g i).own; points = n }) (points i))
+
+pub made_stand : {C A D : Type 0} (k : Kind C A) (meaning : D → Coils) (did : Did D) (d : D) (x : Inner A D C) → Made k meaning did d x → stand k meaning x ≡ first_stand k (meaning d)
+made_stand k meaning did d x m = same_stand (standing k meaning x) (first_standing k (meaning d)) m.motors m.points
 
 pub called_stand : {C A D : Type 0} (k : Rules C A) (meaning : D → Coils) (did : Did D) (stage : Stage) (a : Asked) (x y : Inner A D C) (r : Answer) → Called k meaning did stage a x y r →
     stand k.kind meaning y ≡ stand_after k (stand k.kind meaning x) (record { stage = stage; asked = a })
 called_stand {C} {A} {D} k meaning did stage a x y r c =
     let s : Stand C A = stand k.kind meaning x in
     let q : Query = record { stage = stage; asked = a } in
-    let points : (i : CoilId) → (at (meaning y.driver) i).points ≡ points_after i (at (meaning x.driver) i) (wanted k.kind (share_after k First s.one q)) (wanted k.kind (share_after k Second s.two q)) (deed k.lines stage i a) =
-    λ i. c.points i
+    let here : (i : CoilId) → standing k.kind meaning x i ≡ at s i = λ i. sym (at_both (standing k.kind meaning x) i) in
+    same_stand (standing k.kind meaning y) (standing_after k s q)
+    (λ i. c.motors i ∙ ap (λ m. share_after k i m q) (here i))
+    (λ i. c.points i
     ∙ ap (λ h. points_after i (at (meaning x.driver) i) (wanted k.kind h) (wanted k.kind (share k.kind meaning y Second)) (deed k.lines stage i a)) (c.motors First)
-    ∙ ap (λ h. points_after i (at (meaning x.driver) i) (wanted k.kind (share_after k First s.one q)) (wanted k.kind h) (deed k.lines stage i a)) (c.motors Second) in
-    same_stand (stand k.kind meaning y) (stand_after k s q) (c.motors First) (points First) (c.motors Second) (points Second)
+    ∙ ap (λ h. points_after i (at (meaning x.driver) i) (wanted_after k s First q) (wanted k.kind h) (deed k.lines stage i a)) (c.motors Second)
+    ∙ ap (λ m. points_after i (coil m) (wanted_after k s First q) (wanted_after k s Second q) (deed k.lines stage i a)) (here i))
 
 -- a cycle: each half of the answer, where it is accepted
 halves_told : {C A D : Type 0} {k : Rules C A} {meaning : D → Coils} {x : Inner A D C} {orders before bytes : List ℕ} (room : ℕ) (r : Answer) (i : CoilId) → r ≡ length_answer (length orders) room → Filled k meaning x orders before bytes r →
@@ -49,39 +51,37 @@ halves_told {C} {A} {D} {k} {meaning} {x} {orders} {before} {bytes} room r i e f
 module _ {C A D : Type 0} {k : Rules C A} {meaning : D → Coils} {did : Did D} {x y : Inner A D C} {r : Answer} where
   -- a call that is no cycle
   pub once_plain : {stage : Stage} {a : Asked} → ((i : CoilId) (h : Share C A) → given k.kind i h a ≡ None) → Called k meaning did stage a x y r →
-      Once k meaning did x y (record { stage = stage; asked = a }) [] (record { query = record { stage = stage; asked = a }; told = record { number = r; one = None; two = None }; buffer = [] })
+      Once k meaning did x y (record { stage = stage; asked = a }) [] (record { query = record { stage = stage; asked = a }; told = record { number = r; halves = both (λ _. None) }; buffer = [] })
   once_plain {stage} {a} none c = record {
     asked = refl;
     buffer = λ _. refl;
     after = called_stand k meaning did stage a x y r c;
-    answer = ap (λ n. record { number = n; one = None; two = None }) c.number
-        ∙ ap (λ o. record { number = answer k stage (share k.kind meaning x First) (share k.kind meaning x Second) a; one = o; two = None }) (sym (none First (share k.kind meaning x First)))
-        ∙ ap (λ o. record { number = answer k stage (share k.kind meaning x First) (share k.kind meaning x Second) a; one = given k.kind First (share k.kind meaning x First) a; two = o }) (sym (none Second (share k.kind meaning x Second)));
+    answer = ap (λ n. record { number = n; halves = both (λ _. None) }) c.number
+        ∙ ap (λ z. record { number = answer k stage (share k.kind meaning x First) (share k.kind meaning x Second) a; halves = z }) (same_both (λ _. None) (λ i. given k.kind i (at (stand k.kind meaning x) i).own a) (λ i. sym (none i (at (stand k.kind meaning x) i).own)));
     driver = c.driver;
   }
 
   -- a setting whose value came through its bits
   pub once_setting : {stage : Stage} {n : ℕ} {v z : ℤ} → z ≡ v → Called k meaning did stage (setting n z) x y r →
-      Once k meaning did x y (record { stage = stage; asked = setting n v }) [] (record { query = record { stage = stage; asked = setting n v }; told = record { number = r; one = None; two = None }; buffer = [] })
+      Once k meaning did x y (record { stage = stage; asked = setting n v }) [] (record { query = record { stage = stage; asked = setting n v }; told = record { number = r; halves = both (λ _. None) }; buffer = [] })
   once_setting {stage} {n} e c = once_plain (λ i h. refl) (subst (λ u. Called k meaning did stage (setting n u) x y r) e c)
 
   once_filled : {orders before bytes : List ℕ} {room : ℕ} → Called k meaning did Running (cycle orders room) x y r → Filled k meaning x orders before bytes r →
-      Once k meaning did x y (record { stage = Running; asked = cycle orders room }) before (record { query = record { stage = Running; asked = cycle orders room }; told = record { number = r; one = half_told First bytes r; two = half_told Second bytes r }; buffer = bytes })
+      Once k meaning did x y (record { stage = Running; asked = cycle orders room }) before (record { query = record { stage = Running; asked = cycle orders room }; told = record { number = r; halves = both (λ i. half_told i bytes r) }; buffer = bytes })
   once_filled {orders} {before} {bytes} {room} c f =
       let num : Answer = length_answer (length orders) room in
       record {
         asked = refl;
         buffer = f.untouched;
         after = called_stand k meaning did Running (cycle orders room) x y r c;
-        answer = ap (λ n. record { number = n; one = half_told First bytes r; two = half_told Second bytes r }) c.number
-            ∙ ap (λ o. record { number = num; one = o; two = half_told Second bytes r }) (halves_told room r First c.number f)
-            ∙ ap (λ o. record { number = num; one = given k.kind First (share k.kind meaning x First) (cycle orders room); two = o }) (halves_told room r Second c.number f);
+        answer = ap (λ n. record { number = n; halves = both (λ i. half_told i bytes r) }) c.number
+            ∙ ap (λ z. record { number = num; halves = z }) (same_both (λ i. half_told i bytes r) (λ i. given k.kind i (share k.kind meaning x i) (cycle orders room)) (λ i. halves_told room r i c.number f));
         driver = c.driver;
       }
 
   -- a cycle through the buffers of its entry
   pub once_cycle : {o orders b before bytes final : List ℕ} {room : ℕ} → o ≡ orders → b ≡ before → length before ≡ room → bytes ≡ final → Called k meaning did Running (cycle o (length b)) x y r → Filled k meaning x o b bytes r →
-      Once k meaning did x y (record { stage = Running; asked = cycle orders room }) before (record { query = record { stage = Running; asked = cycle orders room }; told = record { number = r; one = half_told First final r; two = half_told Second final r }; buffer = final })
+      Once k meaning did x y (record { stage = Running; asked = cycle orders room }) before (record { query = record { stage = Running; asked = cycle orders room }; told = record { number = r; halves = both (λ i. half_told i final r) }; buffer = final })
   once_cycle {o} {orders} {b} {before} {bytes} oe be le fe c f =
       once_filled (subst (λ n. Called k meaning did Running (cycle orders n) x y r) (ap length be ∙ le) (subst (λ z. Called k meaning did Running (cycle z (length b)) x y r) oe c))
       (subst (λ z. Filled k meaning x orders before z r) fe (subst (λ z. Filled k meaning x orders z bytes r) be (subst (λ z. Filled k meaning x z b bytes r) oe f)))

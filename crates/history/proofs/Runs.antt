@@ -52,8 +52,8 @@ module _ {C A D E : Type 0} {k : Rules C A} {meaning : D → Coils} {did : Did D
             ∙ ap (λ ts. tolds (map f (take n es)) ++ ts) (ap (λ t. t ∷ tells k (stand k.kind meaning y) asked) o.answer ∙ ap (λ t. told k now q ∷ tells k t asked) o.after ∙ ap (tells k now) ahead)
             ∙ s.answers;
         driver = λ z p. s.driver z (subst (λ ds. Chain did x.driver ds z)
-            (ap (λ t. calls k now.one.own now.two.own q.asked ++ drives k t asked) o.after ∙ ap (drives k now) ahead)
-            (chain_append did x.driver y.driver z (calls k now.one.own now.two.own q.asked) (drives k (stand k.kind meaning y) asked) o.driver p));
+            (ap (λ t. calls k now.first.own now.second.own q.asked ++ drives k t asked) o.after ∙ ap (drives k now) ahead)
+            (chain_append did x.driver y.driver z (calls k now.first.own now.second.own q.asked) (drives k (stand k.kind meaning y) asked) o.driver p));
       }
 
   pub so_all : length es ≤ n → length es₀ ≡ length es → Passed k meaning did x₀ x (map f es₀) (map f es)

@@ -1,11 +1,9 @@
 -- A whole history: preparation, then, if the module was started, the calls that follow.
 use Rattle.std.proofs.Common.{◌≡◌, List, [], ◌∷◌, ◌++◌, map, Some, None, vec_items, Option, Vec, sym, refl, ap, ◌∙◌, subst, append_assoc}
-use Rattle.axis.specs.Kinds.{Kind}
 use Rattle.coil.proofs.Chained.{chain_append}
 use Rattle.coil.specs.Chains.{Chain, Did}
 use Rattle.coil.specs.Meaning.{Coils}
-use Rattle.coil.specs.declared.CoilId.TheVariants.{First, Second}
-use Rattle.history.proofs.Calls.{same_stand}
+use Rattle.history.proofs.Calls.{made_stand}
 use Rattle.history.specs.Lists.{Answered, Event, events, operated, operation, preparation, prepared, queries, running, tolds}
 use Rattle.history.specs.Ran.{BothStarted, Passed, Ran}
 use Rattle.history.specs.Stands.{Query, Stand, drives, first_stand, stand, stand_after, stands, tells, told}
@@ -22,16 +20,13 @@ use Rattle.std.proofs.lemmas.List.{map-append}
 use Rattle.std.specs.Option.{option_map}
 use Rattle.std.specs.declared.alloc.Global.{Global}
 
-made_stand : {C A D : Type 0} (k : Kind C A) (meaning : D → Coils) (did : Did D) (d : D) (x : Inner A D C) → Made k meaning did d x → stand k meaning x ≡ first_stand k (meaning d)
-made_stand k meaning did d x m = same_stand (stand k meaning x) (first_stand k (meaning d)) (m.motors First) (m.points First) (m.motors Second) (m.points Second)
-
 tells_append : {C A : Type 0} (k : Rules C A) (s : Stand C A) (ps qs : List Query) → tells k s (ps ++ qs) ≡ tells k s ps ++ tells k (stands k s ps) qs
 tells_append k s [] qs = refl
 tells_append k s (p ∷ ps) qs = ap (λ ts. told k s p ∷ ts) (tells_append k (stand_after k s p) ps qs)
 
 drives_append : {C A : Type 0} (k : Rules C A) (s : Stand C A) (ps qs : List Query) → drives k s (ps ++ qs) ≡ drives k s ps ++ drives k (stands k s ps) qs
 drives_append k s [] qs = refl
-drives_append k s (p ∷ ps) qs = ap (λ ds. calls k s.one.own s.two.own p.asked ++ ds) (drives_append k (stand_after k s p) ps qs) ∙ sym (append_assoc (calls k s.one.own s.two.own p.asked) (drives k (stand_after k s p) ps) (drives k (stands k (stand_after k s p) ps) qs))
+drives_append k s (p ∷ ps) qs = ap (λ ds. calls k s.first.own s.second.own p.asked ++ ds) (drives_append k (stand_after k s p) ps qs) ∙ sym (append_assoc (calls k s.first.own s.second.own p.asked) (drives k (stand_after k s p) ps) (drives k (stands k (stand_after k s p) ps) qs))
 
 passed_none : {C A D : Type 0} (k : Rules C A) (meaning : D → Coils) (did : Did D) (x : Inner A D C) → Passed k meaning did x x [] []
 passed_none k meaning did x = record { answered = tt; after = refl; answers = refl; driver = refl }

@@ -1,7 +1,7 @@
 -- A history as lists: what was asked, and what was told. Assumes nothing.
 use Rattle.std.specs.Prelude.{◌≡◌, ℕ, true, List, [], ◌++◌, map, is_err, Some, None, Ok, Err, vec_items, vec_len, Option}
+use Rattle.coil.specs.Coils.{both}
 use Rattle.coil.specs.declared.CoilId.{CoilId}
-use Rattle.coil.specs.declared.CoilId.TheVariants.{First, Second}
 use Rattle.history.specs.Stands.{Query, Told}
 use Rattle.history.specs.declared.Call.{Call}
 use Rattle.history.specs.declared.Call.TheVariants as calls
@@ -57,7 +57,7 @@ query k c = record { stage = k.stage; asked = k.asked c }
 abbrev pub event : {C : Type 0} → CallKind C → Entry C → Event
 event k e = record {
   query = query k e.call;
-  told = record { number = e.ended; one = k.got First e.call e.ended; two = k.got Second e.call e.ended };
+  told = record { number = e.ended; halves = both (λ i. k.got i e.call e.ended) };
   buffer = k.buffer e.call;
 }
 
@@ -81,11 +81,11 @@ queries vs = map (λ v. v.query) vs
 abbrev pub tolds : List Event → List Told
 tolds vs = map (λ v. v.told) vs
 
--- the calls in preparation, and those of the running module, if it was started
+-- the calls in preparation, and those of a running module, none where it was not started
 abbrev pub preparation : History → List Event
 preparation h = map prepared (vec_items h.preparation)
 
-abbrev pub operation : Option (List Event) → List Event
+abbrev pub operation : {X : Type 0} → Option (List X) → List X
 operation o = unwrap_or o []
 
 abbrev pub running : History → Option (List Event)

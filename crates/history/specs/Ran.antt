@@ -15,7 +15,7 @@ pub record Once {C A D : Type 0} (k : Rules C A) (meaning : D → Coils) (did : 
   pub buffer : is_err w.told.number ≡ true → w.buffer ≡ bytes
   pub after : stand k.kind meaning y ≡ stand_after k (stand k.kind meaning x) q
   pub answer : w.told ≡ told k (stand k.kind meaning x) q
-  pub driver : Chain did x.driver (calls k (stand k.kind meaning x).one.own (stand k.kind meaning x).two.own q.asked) y.driver
+  pub driver : Chain did x.driver (calls k (stand k.kind meaning x).first.own (stand k.kind meaning x).second.own q.asked) y.driver
 
 -- a list of calls, in order
 pub record Passed {C A D : Type 0} (k : Rules C A) (meaning : D → Coils) (did : Did D) (x y : Inner A D C) (vs ws : List Event) : Type 0 where

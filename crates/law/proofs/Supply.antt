@@ -1,8 +1,9 @@
 -- The supply holds after any list of calls.
 use Rattle.std.proofs.Common.{◌≡◌, ℕ, ◌+◌, ◌≤◌, min, Bool, true, false, cond, eqb, ltb, leb, List, [], ◌∷◌, length, ℤ, pos, negsuc, Some, None, Option, sym, refl, ap, ◌∙◌, subst, arith, ltb-true, leb-true}
-use Rattle.axis.specs.Kinds.{Kind, Seen}
+use Rattle.axis.specs.Kinds.{Kind, Rests}
 use Rattle.axis.specs.Levels.{Levels, chosen, is_powered, with_level}
-use Rattle.coil.specs.Numbers.{points_from}
+use Rattle.coil.specs.Coils.{at}
+use Rattle.coil.specs.Numbers.{number, points_from}
 use Rattle.axis.specs.declared.currents.Current.{Current}
 use Rattle.axis.specs.declared.currents.Current.TheVariants.{Off, Holding, Nominal, Maximum}
 use Rattle.axis.specs.declared.currents.CurrentSetting.{CurrentSetting}
@@ -11,9 +12,9 @@ use Rattle.coil.proofs.Flags.{clear_tripped, report_tripped}
 use Rattle.coil.specs.Meaning.{Coil, noted, tripped}
 use Rattle.coil.specs.declared.CoilId.{CoilId}
 use Rattle.coil.specs.declared.CoilId.TheVariants.{First, Second}
-use Rattle.history.specs.Stands.{Query, Stand, Standing, coil, share_after, stand_after, stands}
+use Rattle.history.specs.Stands.{Query, Stand, Standing, coil, share_after, stand_after, stands, wanted_after}
 use Rattle.law.specs.Deeds.{deeds_of, quiet, quiet_after}
-use Rattle.module.specs.Effects.{Asked, Deed, acknowledgement, acknowledges, adjusted, after, concerns, currents_after, cycle, deed, half, lives, misses, motor_deed, moves, number, points_after, report, reports, set_deed, sets, setting, starts, with_points}
+use Rattle.module.specs.Effects.{Asked, Deed, acknowledgement, acknowledges, adjusted, after, concerns, currents_after, cycle, deed, half, lives, misses, motor_deed, moves, points_after, report, reports, set_deed, sets, setting, starts, with_points}
 use Rattle.module.specs.Share.{Rules, Share, powered, wanted}
 use Rattle.registers.specs.Tables.{Line, is_open, look_up}
 use Rattle.registers.specs.declared.Register.{Register}
@@ -93,43 +94,28 @@ pub record Fine {C A : Type 0} (k : Kind C A) (m : Standing C A) (b : Bool) : Ty
 -- what holds of every kind of axis
 pub record Lawful {C A : Type 0} (k : Kind C A) : Type 0 where
   pub starts : k.current k.fresh ≡ Off
-  pub rests : (config : C) (x : A) (s : Seen) (orders : List ℕ) → tripped (k.cycle config x s orders).flags ≡ true → k.current (k.cycle config x s orders).axis ≡ Off
+  pub rests : Rests k
 
-fine_report : {C A : Type 0} (k : Rules C A) (i : CoilId) (m : Standing C A) (b : Bool) (f w v : ℕ) → Fine k.kind m b → (t u x : Bool) → ltb f 16 ≡ t → tripped f ≡ u → tripped (noted m.own.flags f) ≡ x →
+fine_report : {C A : Type 0} (k : Rules C A) (i : CoilId) (m : Standing C A) (b : Bool) (f w v : ℕ) → Fine k.kind m b →
     Fine k.kind (record { own = after k i m.own (reports f); points = points_after i (coil m) w v (Some (reports f)) }) (quiet_after b (reports f))
-fine_report {C} {A} k i m b f w v s t u x te ue xe = record {
+fine_report k i m b f w v s = record {
   sane = s.sane;
-  enough = subst Enough (ap (λ z. cond z (cond (tripped f) false b) b) (sym te)) (subst Points (ap (λ z. cond z (cond (tripped (noted m.own.flags f)) 0 m.points) m.points) (sym te)) (enough t u x te ue xe));
-  rests = subst Quiet (ap (λ z. cond z (cond (tripped f) false b) b) (sym te)) (subst Flags (ap (λ z. cond z (noted m.own.flags f) m.own.flags) (sym te)) (rests t u te ue));
+  enough = enough (ltb f 16) (tripped f) (tripped (noted m.own.flags f)) refl refl refl;
+  rests = rests (ltb f 16) (tripped f) refl refl;
 }
   where
     want : ℕ
     want = wanted k.kind m.own
 
-    Points : ℕ → Type 0
-    Points p = cond t (cond (tripped f) false b) b ≡ true → min 100 want ≤ p
-
-    Enough : Bool → Type 0
-    Enough z = z ≡ true → min 100 want ≤ points_after i (coil m) w v (Some (reports f))
-
-    enough : (t u x : Bool) → ltb f 16 ≡ t → tripped f ≡ u → tripped (noted m.own.flags f) ≡ x → cond t (cond (tripped f) false b) b ≡ true → min 100 want ≤ cond t (cond (tripped (noted m.own.flags f)) 0 m.points) m.points
-    enough true true x te ue xe q = let no : false ≡ true = rw ue at q in cc
-    enough true false true te ue xe q =
-        let bt : b ≡ true = sym (ap (λ z. cond z false b) ue) ∙ q in
-        let none : want ≡ 0 = s.rests bt (report_tripped m.own.flags f (ltb-true f 16 te) xe ue) in
-        omega (arith, none)
-    enough true false false te ue xe q = subst (λ z. min 100 want ≤ cond z 0 m.points) (sym xe) (s.enough (sym (ap (λ z. cond z false b) ue) ∙ q))
+    enough : (t u x : Bool) → ltb f 16 ≡ t → tripped f ≡ u → tripped (noted m.own.flags f) ≡ x → cond t (cond u false b) b ≡ true → min 100 want ≤ cond t (cond x 0 m.points) m.points
+    enough true true x te ue xe q = cc
+    enough true false true te ue xe q = let none : want ≡ 0 = s.rests q (report_tripped m.own.flags f (ltb-true f 16 te) xe ue) in omega (arith, none)
+    enough true false false te ue xe q = s.enough q
     enough false u x te ue xe q = s.enough q
 
-    Flags : ℕ → Type 0
-    Flags g = cond t (cond (tripped f) false b) b ≡ true → tripped g ≡ true → want ≡ 0
-
-    Quiet : Bool → Type 0
-    Quiet z = z ≡ true → tripped (after k i m.own (reports f)).flags ≡ true → want ≡ 0
-
-    rests : (t u : Bool) → ltb f 16 ≡ t → tripped f ≡ u → cond t (cond (tripped f) false b) b ≡ true → tripped (cond t (noted m.own.flags f) m.own.flags) ≡ true → want ≡ 0
-    rests true true te ue q y = let no : false ≡ true = rw ue at q in cc
-    rests true false te ue q y = s.rests (sym (ap (λ z. cond z false b) ue) ∙ q) (report_tripped m.own.flags f (ltb-true f 16 te) y ue)
+    rests : (t u : Bool) → ltb f 16 ≡ t → tripped f ≡ u → cond t (cond u false b) b ≡ true → tripped (cond t (noted m.own.flags f) m.own.flags) ≡ true → want ≡ 0
+    rests true true te ue q y = cc
+    rests true false te ue q y = s.rests q (report_tripped m.own.flags f (ltb-true f 16 te) y ue)
     rests false u te ue q y = s.rests q y
 
 fine_after : {C A : Type 0} (k : Rules C A) (i : CoilId) (m : Standing C A) (b : Bool) (d : Deed) (w v : ℕ) → Lawful k.kind → Fine k.kind m b → min 100 (wanted k.kind (after k i m.own d)) ≤ granted i w v →
@@ -148,7 +134,7 @@ fine_after k i m b (moves orders) w v law s g = record {
   rests = λ _ t. ap (λ c. chosen c m.own.currents) (law.rests m.own.config m.own.axis (record { count = m.own.count; flags = m.own.flags }) orders t);
 }
 fine_after k i m b (misses n l) w v law s g = s
-fine_after k i m b (reports f) w v law s g = fine_report k i m b f w v s (ltb f 16) (tripped f) (tripped (noted m.own.flags f)) refl refl refl
+fine_after k i m b (reports f) w v law s g = fine_report k i m b f w v s
 fine_after k i m b acknowledges w v law s g = record { sane = s.sane; enough = s.enough; rests = λ q t. s.rests q (clear_tripped m.own.flags t) }
 
 abbrev calmed : Bool → Option Deed → Bool
@@ -161,27 +147,19 @@ fine_lives k i m b None w v law s g = s
 fine_lives k i m b (Some d) w v law s g = fine_after k i m b d w v law s g
 
 -- the points of both coils together
+less : (i : CoilId) (c : Coil) (w v : ℕ) (t : Bool) (d : Deed) → points_after i c w v (Some d) ≤ c.points → points_after i c w v (cond t (Some d) None) ≤ c.points
+less i c w v t d h = cond_both t (Some d) None (λ o. points_after i c w v o ≤ c.points) (λ _. h) (λ _. omega arith)
+
 less_set : (i : CoilId) (c : Coil) (w v : ℕ) (stage : Stage) (o : Option Register) (n : ℕ) (x : ℤ) → points_after i c w v (set_deed i stage o n x) ≤ c.points
 less_set i c w v stage None n x = omega arith
-less_set i c w v stage (Some r) n x = by (concerns i r.setting)
-  where
-    by : (t : Bool) → points_after i c w v (cond t (Some (sets stage n x)) None) ≤ c.points
-    by true = omega arith
-    by false = omega arith
+less_set i c w v stage (Some r) n x = less i c w v (concerns i r.setting) (sets stage n x) (omega arith)
 
 less_report : (i : CoilId) (c : Coil) (w v n f : ℕ) → points_after i c w v (motor_deed i n (reports f)) ≤ c.points
-less_report i c w v n f = by (eqb n (number i))
-  where
-    by : (t : Bool) → points_after i c w v (cond t (Some (reports f)) None) ≤ c.points
-    by true = cond_both (ltb f 16) (cond (tripped (noted c.flags f)) 0 c.points) c.points (λ n. n ≤ c.points) (λ _. cond_both (tripped (noted c.flags f)) 0 c.points (λ n. n ≤ c.points) (λ _. omega arith) (λ _. omega arith)) (λ _. omega arith)
-    by false = omega arith
+less_report i c w v n f = less i c w v (eqb n (number i)) (reports f)
+    (cond_both (ltb f 16) (cond (tripped (noted c.flags f)) 0 c.points) c.points (λ p. p ≤ c.points) (λ _. cond_both (tripped (noted c.flags f)) 0 c.points (λ p. p ≤ c.points) (λ _. omega arith) (λ _. omega arith)) (λ _. omega arith))
 
 less_acknowledge : (i : CoilId) (c : Coil) (w v n : ℕ) → points_after i c w v (motor_deed i n acknowledges) ≤ c.points
-less_acknowledge i c w v n = by (eqb n (number i))
-  where
-    by : (t : Bool) → points_after i c w v (cond t (Some acknowledges) None) ≤ c.points
-    by true = omega arith
-    by false = omega arith
+less_acknowledge i c w v n = less i c w v (eqb n (number i)) acknowledges (omega arith)
 
 together_cycle : (c e : Coil) (w v : ℕ) (a b : Bool) (n room : ℕ) (x y : List ℕ) → c.points + e.points ≤ 267 → granted First w v + granted Second w v ≤ 267 →
     points_after First c w v (Some (cond a (cond b (moves x) (misses n room)) (misses n room))) + points_after Second e w v (Some (cond a (cond b (moves y) (misses n room)) (misses n room))) ≤ 267
@@ -199,26 +177,23 @@ together_after lines stage (acknowledgement n) c e w v h g = omega (arith, less_
 grants : (w v : ℕ) → w ≤ 167 → v ≤ 167 → (min 100 w ≤ granted First w v) × (min 100 v ≤ granted Second w v) × (granted First w v + granted Second w v ≤ 267)
 grants w v x y = (omega arith, omega arith, omega arith)
 
--- both motors and the supply
-pub record AllFine {C A : Type 0} (k : Kind C A) (s : Stand C A) (a b : Bool) : Type 0 where
-  pub one : Fine k s.one a
-  pub two : Fine k s.two b
-  pub together : s.one.points + s.two.points ≤ 267
+-- both motors and the supply: calm says of each motor that no report tripped it since the last accepted cycle
+pub record AllFine {C A : Type 0} (k : Kind C A) (s : Stand C A) (calm : CoilId → Bool) : Type 0 where
+  pub each : (i : CoilId) → Fine k (at s i) (calm i)
+  pub together : s.first.points + s.second.points ≤ 267
 
-all_after : {C A : Type 0} (k : Rules C A) (s : Stand C A) (a b : Bool) (q : Query) → Lawful k.kind → AllFine k.kind s a b →
-    AllFine k.kind (stand_after k s q) (calmed a (deed k.lines q.stage First q.asked)) (calmed b (deed k.lines q.stage Second q.asked))
-all_after {C} {A} k s a b q law f =
-    let h : Share C A = share_after k First s.one q in
-    let g : Share C A = share_after k Second s.two q in
-    let o : Option Deed = deed k.lines q.stage First q.asked in
-    let p : Option Deed = deed k.lines q.stage Second q.asked in
-    let w : ℕ = wanted k.kind h in
-    let v : ℕ = wanted k.kind g in
-    let z = grants w v (chosen_le (k.kind.current h.axis) h.currents (sane_lives k First s.one.own o f.one.sane)) (chosen_le (k.kind.current g.axis) g.currents (sane_lives k Second s.two.own p f.two.sane)) in
+all_after : {C A : Type 0} (k : Rules C A) (s : Stand C A) (calm : CoilId → Bool) (q : Query) → Lawful k.kind → AllFine k.kind s calm →
+    AllFine k.kind (stand_after k s q) (λ i. calmed (calm i) (deed k.lines q.stage i q.asked))
+all_after {C} {A} k s calm q law f =
+    let o : CoilId → Option Deed = λ i. deed k.lines q.stage i q.asked in
+    let want : (i : CoilId) → wanted_after k s i q ≤ 167 = λ i. chosen_le (k.kind.current (share_after k i (at s i) q).axis) (share_after k i (at s i) q).currents (sane_lives k i (at s i).own (o i) (f.each i).sane) in
+    let z = grants (wanted_after k s First q) (wanted_after k s Second q) (want First) (want Second) in
     record {
-      one = fine_lives k First s.one a o w v law f.one z.0;
-      two = fine_lives k Second s.two b p w v law f.two z.1;
-      together = together_after k.lines q.stage q.asked (coil s.one) (coil s.two) w v f.together z.2;
+      each = λ i. elim i as (λ i. Fine k.kind (at (stand_after k s q) i) (calmed (calm i) (o i))) [
+        | First ↦ fine_lives k First s.first (calm First) (o First) (wanted_after k s First q) (wanted_after k s Second q) law (f.each First) z.0
+        | Second ↦ fine_lives k Second s.second (calm Second) (o Second) (wanted_after k s First q) (wanted_after k s Second q) law (f.each Second) z.1
+      ];
+      together = together_after k.lines q.stage q.asked (coil s.first) (coil s.second) (wanted_after k s First q) (wanted_after k s Second q) f.together z.2;
     }
 
 quiet_more : (b : Bool) (o : Option Deed) (ds : List Deed) → quiet (calmed b o) ds ≡ quiet b (cons_option o ds)
@@ -226,11 +201,13 @@ quiet_more b None ds = refl
 quiet_more b (Some d) ds = refl
 
 -- after any list of calls
-pub all_fine : {C A : Type 0} (k : Rules C A) (s : Stand C A) (a b : Bool) (qs : List Query) → Lawful k.kind → AllFine k.kind s a b → AllFine k.kind (stands k s qs) (quiet a (deeds_of k.lines First qs)) (quiet b (deeds_of k.lines Second qs))
-all_fine k s a b [] law f = f
-all_fine {C} {A} k s a b (q ∷ qs) law f =
-    let o : Option Deed = deed k.lines q.stage First q.asked in
-    let p : Option Deed = deed k.lines q.stage Second q.asked in
-    let P : Bool → Type 0 = λ z. AllFine k.kind (stands k (stand_after k s q) qs) z (quiet (calmed b p) (deeds_of k.lines Second qs)) in
-    let Q : Bool → Type 0 = λ z. AllFine k.kind (stands k (stand_after k s q) qs) (quiet a (cons_option o (deeds_of k.lines First qs))) z in
-    subst Q (quiet_more b p (deeds_of k.lines Second qs)) (subst P (quiet_more a o (deeds_of k.lines First qs)) (all_fine k (stand_after k s q) (calmed a o) (calmed b p) qs law (all_after k s a b q law f)))
+pub all_fine : {C A : Type 0} (k : Rules C A) (s : Stand C A) (calm : CoilId → Bool) (qs : List Query) → Lawful k.kind → AllFine k.kind s calm → AllFine k.kind (stands k s qs) (λ i. quiet (calm i) (deeds_of k.lines i qs))
+all_fine k s calm [] law f = f
+all_fine {C} {A} k s calm (q ∷ qs) law f =
+    let o : CoilId → Option Deed = λ i. deed k.lines q.stage i q.asked in
+    let t : Stand C A = stands k (stand_after k s q) qs in
+    let more : AllFine k.kind t (λ i. quiet (calmed (calm i) (o i)) (deeds_of k.lines i qs)) = all_fine k (stand_after k s q) (λ i. calmed (calm i) (o i)) qs law (all_after k s calm q law f) in
+    record {
+      each = λ i. subst (Fine k.kind (at t i)) (quiet_more (calm i) (o i) (deeds_of k.lines i qs)) (more.each i);
+      together = more.together;
+    }

@@ -1,8 +1,8 @@
 -- What a history does to one motor, and what is read off that alone. Assumes nothing.
 use Rattle.std.specs.Prelude.{ℕ, Bool, true, false, cond, List, [], ◌∷◌, ℤ, pos, ◌+ℤ◌, ◌*ℤ◌, Some, None, Ok, Option, nat_lt}
+use Rattle.coil.specs.Coils.{at}
 use Rattle.coil.specs.Meaning.{cleared, noted, tripped}
 use Rattle.coil.specs.declared.CoilId.{CoilId}
-use Rattle.coil.specs.declared.CoilId.TheVariants.{First, Second}
 use Rattle.history.specs.Stands.{Query, Told}
 use Rattle.module.specs.Effects.{Answer, Deed, acknowledges, after, config_after, deed, flags_answer, length_answer, misses, moves, outcome, reports, sets, setting_answer, starts}
 use Rattle.module.specs.Share.{Rules, Share, powered}
@@ -22,8 +22,7 @@ pub record Reply : Type 0 where
   pub bytes : Option (List ℕ)
 
 abbrev pub reply_to : CoilId → Told → Reply
-reply_to First t = record { number = t.number; bytes = t.one }
-reply_to Second t = record { number = t.number; bytes = t.two }
+reply_to i t = record { number = t.number; bytes = at t.halves i }
 
 abbrev pub heard_one : Option Deed → Reply → List Reply → List Reply
 heard_one None r rs = rs

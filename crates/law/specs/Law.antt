@@ -4,6 +4,7 @@ use Rattle.coil.specs.Coils.{at}
 use Rattle.coil.specs.Meaning.{Coil, Coils}
 use Rattle.coil.specs.Modulo.{modulo}
 use Rattle.coil.specs.declared.CoilId.{CoilId}
+use Rattle.history.specs.Lists.{operation}
 use Rattle.history.specs.Stands.{Query, Told}
 use Rattle.law.specs.Deeds.{Reply, deeds_of, ending, heard, microsteps_taken, quiet}
 use Rattle.law.specs.declared.FunctionModel.{FunctionModel}
@@ -12,7 +13,6 @@ use Rattle.module.specs.Effects.{Deed, starts}
 use Rattle.module.specs.Share.{born, rules, wanted}
 use Rattle.module.specs.declared.motor.Fault.{Fault}
 use Rattle.registers.specs.Tables.{Line, step_lines}
-use Rattle.std.specs.Option.{unwrap_or}
 use Rattle.step_axis.specs.Taken.{step_kind}
 use Rattle.step_axis.specs.Words.{first_config}
 
@@ -32,9 +32,6 @@ pub record Run : Type 0 where
 
 abbrev pub lines_of : FunctionModel → List Line
 lines_of StepWords = step_lines
-
-abbrev pub called : Option (List Query) → List Query
-called qs = unwrap_or qs []
 
 abbrev pub started : List Line → CoilId → Option (List Query) → List Deed
 started lines i None = []
@@ -63,7 +60,7 @@ pub record Shown : Type 0 where
 
 abbrev pub shown_by : Run → CoilId → Shown
 shown_by r i = record {
-  answers = heard (lines_of r.model) i (r.settings ++ called r.calls) r.told;
+  answers = heard (lines_of r.model) i (r.settings ++ operation r.calls) r.told;
   fault = r.fault i;
   count = (at r.last i).count;
   flags = (at r.last i).flags;

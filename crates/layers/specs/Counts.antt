@@ -1,5 +1,5 @@
 -- Counts modulo 2 ^ 32: negated, raised by a shift, and stepped in between.
-use Rattle.std.proofs.Common.{◌≡◌, ℕ, zero, suc, ◌+◌, ◌%◌, ◌^◌, ◌<◌, ℤ, pos, ◌+ℤ◌, neg_ℤ, sym, refl, ap, ◌∙◌, arith, lit<}
+use Rattle.std.proofs.Common.{◌≡◌, ℕ, zero, suc, ◌^◌, ◌<◌, ℤ, pos, ◌+ℤ◌, neg_ℤ, sym, refl, ap, ◌∙◌, arith, lit<}
 use Rattle.coil.proofs.Wraps.{modulo_below, modulo_onto}
 use Rattle.coil.specs.Meaning.{stepped}
 use Rattle.coil.specs.Modulo.{modulo}
@@ -53,6 +53,3 @@ raised_steps shift steps n =
 
 pub negated_twice : (n : ℕ) → n < 2 ^ 32 → negated (negated n) ≡ n
 negated_twice n h = omega arith
-
-pub raised_twice : (a b n : ℕ) → raised b (raised a n) ≡ raised ((a + b) % 2 ^ 32) n
-raised_twice a b n = omega arith

@@ -1,6 +1,7 @@
 -- What reversal and zero shift make of the coils below them, and of the calls that they pass on. Assumes nothing.
 use Rattle.std.specs.Prelude.{ℕ, ◌+◌, ◌-◌, ◌%◌, ◌^◌, ℤ}
 use Rattle.coil.specs.Chains.{on}
+use Rattle.coil.specs.Coils.{at, both}
 use Rattle.coil.specs.Meaning.{Coils, with_count}
 use Rattle.coil.specs.declared.CoilCall.{CoilCall}
 use Rattle.coil.specs.declared.CoilCall.TheVariants.{Advance, Feed, Note, Clear}
@@ -8,7 +9,7 @@ use Rattle.coil.specs.declared.DriverCall.{DriverCall}
 
 -- both counts by one rule, while points and flags pass through
 abbrev pub recounted : (ℕ → ℕ) → Coils → Coils
-recounted rule c = record { first = with_count c.first (rule c.first.count); second = with_count c.second (rule c.second.count) }
+recounted rule c = both (λ i. with_count (at c i) (rule (at c i).count))
 
 -- a count negated, modulo 2 ^ 32; a count is below 2 ^ 32, so the difference is not cut at 0
 abbrev pub negated : ℕ → ℕ

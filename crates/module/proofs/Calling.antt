@@ -1,20 +1,20 @@
 -- The whole effect of each call, put together from what its steps do.
-use Rattle.std.proofs.Common.{◌≡◌, ℕ, Bool, true, false, cond, eqb, ltb, ◌⊎◌, List, [], ◌∷◌, ◌++◌, length, ℤ, is_err, Some, None, Ok, Err, Option, ok_or, unwrap_or, sym, refl, ap, ◌∙◌, subst, inl, inr, arith, eqb-true}
+use Rattle.std.proofs.Common.{◌≡◌, ℕ, Bool, true, false, cond, eqb, ltb, ◌⊎◌, List, [], ◌∷◌, ◌++◌, length, ℤ, is_err, Some, None, Ok, Err, Option, unwrap_or, sym, refl, ap, ◌∙◌, subst, inl, inr}
 use Rattle.axis.specs.Kinds.{Kind}
 use Rattle.axis.specs.declared.currents.CurrentSetting.{CurrentSetting}
 use Rattle.coil.proofs.Chained.{chain_join}
+use Rattle.coil.proofs.Numbered.{by_no_number, by_own_number}
 use Rattle.coil.specs.Chains.{Chain, Did, on}
-use Rattle.coil.specs.Numbers.{coil_numbered}
-use Rattle.coil.specs.declared.error.UnknownCoil.{UnknownCoil}
+use Rattle.coil.specs.Numbers.{number}
 use Rattle.coil.specs.Coils.{at, at_put, at_put_other, put}
-use Rattle.coil.specs.Meaning.{Coil, Coils, acknowledged, noted, reported, tripped}
+use Rattle.coil.specs.Meaning.{Coil, Coils, acknowledged, noted, reported}
 use Rattle.coil.specs.declared.CoilCall.TheVariants.{Clear, Note}
 use Rattle.coil.specs.declared.CoilId.{CoilId}
 use Rattle.coil.specs.declared.CoilId.TheVariants.{First, Second}
-use Rattle.module.proofs.Setting.{either_way}
+use Rattle.module.proofs.Setting.{either_way, no_refusal}
 use Rattle.module.proofs.Turns.{same_share}
 use Rattle.module.specs.Called.{Adjusted, Called, Filled, Moved, Shared}
-use Rattle.module.specs.Effects.{Answer, Asked, Deed, acknowledgement, acknowledges, addressee, after, answer, adjusted, calls, concerns, configured, cycle, cycle_calls, cycle_deed, deed, feeds, flags_answer, in_range, half, length_answer, lives, misses, motor_deed, move_calls, moved_share, moves, note_calls, number, points_after, report, reports, set_deed, set_motor, set_share, sets, setting, setting_answer, value_answer, with_config, with_currents}
+use Rattle.module.specs.Effects.{Answer, Asked, Deed, acknowledgement, acknowledges, addressee, after, answer, adjusted, calls, concerns, cycle, cycle_calls, cycle_deed, deed, feeds, flags_answer, in_range, half, length_answer, lives, misses, motor_deed, move_calls, moved_share, moves, note_calls, points_after, report, reports, set_deed, set_motor, set_share, sets, setting, setting_answer, value_answer, where_sized, with_config, with_currents}
 use Rattle.module.specs.Share.{Rules, Share, motor_at, powered, share, share_of, wanted}
 use Rattle.module.specs.declared.inner.Inner.{Inner}
 use Rattle.refusal.specs.declared.Refusal.{Refusal}
@@ -25,40 +25,22 @@ use Rattle.registers.specs.declared.Setting.{Setting}
 use Rattle.registers.specs.declared.Setting.TheVariants.{Configuration, Current}
 use Rattle.registers.specs.declared.Stage.{Stage}
 use Rattle.registers.specs.declared.Stage.TheVariants.{Running}
+use Rattle.std.proofs.lemmas.Bool.{cond-false, cond-true, cond_both}
 use Rattle.supply.specs.Shares.{granted}
 
 abbrev with_driver : {C A D : Type 0} → Inner A D C → D → Inner A D C
-with_driver x d = record { configuration = x.configuration; motors = x.motors; cycles = x.cycles; supply = x.supply; driver = d }
+with_driver x d = record x { driver = d }
 
 abbrev with_flags : {C A : Type 0} → Share C A → ℕ → Share C A
-with_flags h f = record { config = h.config; axis = h.axis; currents = h.currents; fault = h.fault; cycles = h.cycles; count = h.count; flags = f }
-
-pub no_refusal : {X : Type 0} → is_err {T = Unit {0}} {E = Refusal} (Ok tt) ≡ true → X
-no_refusal e = let n : ◌≡◌ {A = ℕ} 0 1 = ap (λ t. cond t 1 0) e in absurd (omega arith)
+with_flags h f = record h { flags = f }
 
 -- reports and acknowledgements, on the motor of a number
 
 either : (i j : CoilId) → (i ≡ j) ⊎ (i ≡ j → ⊥)
 either First First = inl refl
-either First Second = inr (λ q. let n : ◌≡◌ {A = ℕ} 1 2 = ap number q in absurd (omega arith))
-either Second First = inr (λ q. let n : ◌≡◌ {A = ℕ} 2 1 = ap number q in absurd (omega arith))
+either First Second = inr (λ q. cc)
+either Second First = inr (λ q. cc)
 either Second Second = inl refl
-
-pub motor_is : (n : ℕ) (i : CoilId) (u : UnknownCoil) → ok_or (coil_numbered n) u ≡ Ok i → n ≡ number i
-motor_is n i u e = by (eqb n 1) (eqb n 2) refl refl e
-  where
-    by : (a b : Bool) → eqb n 1 ≡ a → eqb n 2 ≡ b → ok_or (cond a (Some First) (cond b (Some Second) None)) u ≡ Ok i → n ≡ number i
-    by true b p q e = let same : First ≡ i = cc in eqb-true n 1 p ∙ ap number same
-    by false true p q e = let same : Second ≡ i = cc in eqb-true n 2 q ∙ ap number same
-    by false false p q e = let z : ◌≡◌ {A = ℕ} 0 1 = cc in absurd (omega arith)
-
-pub no_motor : (n : ℕ) (u v : UnknownCoil) → ok_or (coil_numbered n) u ≡ Err v → (eqb n 1 ≡ false) × (eqb n 2 ≡ false)
-no_motor n u v e = by (eqb n 1) (eqb n 2) refl refl e
-  where
-    by : (a b : Bool) → eqb n 1 ≡ a → eqb n 2 ≡ b → ok_or (cond a (Some First) (cond b (Some Second) None)) u ≡ Err v → (eqb n 1 ≡ false) × (eqb n 2 ≡ false)
-    by true b p q e = let z : ◌≡◌ {A = ℕ} 0 1 = cc in absurd (omega arith)
-    by false true p q e = let z : ◌≡◌ {A = ℕ} 0 1 = cc in absurd (omega arith)
-    by false false p q e = (p, q)
 
 own_deed : (i : CoilId) (d : Deed) → motor_deed i (number i) d ≡ Some d
 own_deed First d = refl
@@ -69,10 +51,6 @@ other_deed First First d ne = absurd (ne refl)
 other_deed First Second d ne = refl
 other_deed Second First d ne = refl
 other_deed Second Second d ne = absurd (ne refl)
-
-for_motor : {X : Type 0} (i : CoilId) (f : CoilId → X) (z : X) → cond (eqb (number i) 1) (f First) (cond (eqb (number i) 2) (f Second) z) ≡ f i
-for_motor First f z = refl
-for_motor Second f z = refl
 
 -- a deed d to the motor i alone, that leaves it the coil c
 called_motor : {C A D : Type 0} (k : Rules C A) (meaning : D → Coils) (did : Did D) (asked : Asked) (d : Deed) (i : CoilId) (x : Inner A D C) (e : D) (c : Coil) →
@@ -112,19 +90,19 @@ called_report {C} {A} {D} k meaning did i n f x e is low coils c =
     let b : Coil = at (meaning x.driver) i in
     subst P (sym is) (called_motor k meaning did (report (number i) f) (reports f) i x e (reported b f)
     (own_deed i (reports f)) (λ j ne. other_deed i j (reports f) ne)
-    (ap (λ t. cond t (Ok tt) (Err UnknownFlags)) (sym low) ∙ sym (for_motor i (λ _. flags_answer f) (Err UnknownMotor)))
+    (sym (cond-true _ _ _ low) ∙ sym (by_own_number i (λ _. flags_answer f) (Err UnknownMotor)))
     coils
-    (ap (λ t. share_of h.config (motor_at k.kind x.motors i) h.cycles (record { count = b.count; points = (reported b f).points; flags = cond t (noted b.flags f) b.flags })) (sym low))
-    (λ w v. ap (λ t. cond t (cond (tripped (noted b.flags f)) 0 b.points) b.points) (sym low))
-    (subst (λ z. Chain did x.driver z e) (ap (λ t. cond t (on i (Note f) ∷ []) []) (sym low) ∙ sym (for_motor i (λ j. note_calls j f) [])) (e, (c, refl))))
+    (ap (λ t. share_of h.config (motor_at k.kind x.motors i) h.cycles (record (reported b f) { flags = cond t (noted b.flags f) b.flags })) (sym low))
+    (λ w v. sym (cond-true _ _ _ low))
+    (subst (λ z. Chain did x.driver z e) (sym (cond-true _ _ _ low) ∙ sym (by_own_number i (λ j. note_calls j f) [])) (e, (c, refl))))
 
 pub called_acknowledge : {C A D : Type 0} (k : Rules C A) (meaning : D → Coils) (did : Did D) (i : CoilId) (n : ℕ) (x : Inner A D C) (e : D) → n ≡ number i →
     meaning e ≡ put (meaning x.driver) i (acknowledged (at (meaning x.driver) i)) → did x.driver (on i Clear) e → Called k meaning did Running (acknowledgement n) x (with_driver x e) (Ok tt)
 called_acknowledge {C} {A} {D} k meaning did i n x e is coils c =
     let P : ℕ → Type 0 = λ m. Called k meaning did Running (acknowledgement m) x (with_driver x e) (Ok tt) in
     subst P (sym is) (called_motor k meaning did (acknowledgement (number i)) acknowledges i x e (acknowledged (at (meaning x.driver) i))
-    (own_deed i acknowledges) (λ j ne. other_deed i j acknowledges ne) (sym (for_motor i (λ _. Ok tt) (Err UnknownMotor))) coils refl (λ w v. refl)
-    (subst (λ z. Chain did x.driver z e) (sym (for_motor i (λ j. on j Clear ∷ []) [])) (e, (c, refl))))
+    (own_deed i acknowledges) (λ j ne. other_deed i j acknowledges ne) (sym (by_own_number i (λ _. Ok tt) (Err UnknownMotor))) coils refl (λ w v. refl)
+    (subst (λ z. Chain did x.driver z e) (sym (by_own_number i (λ j. on j Clear ∷ []) [])) (e, (c, refl))))
 
 -- a call that leaves everything as it was
 untouched : {C A D : Type 0} (k : Rules C A) (meaning : D → Coils) (did : Did D) (stage : Stage) (asked : Asked) (x : Inner A D C) (r : Answer) →
@@ -141,42 +119,30 @@ untouched k meaning did stage asked x r num motors points none = record {
 }
 
 -- a motor that there isn't
-none_for : (n : ℕ) (i : CoilId) (d : Deed) → eqb n 1 ≡ false → eqb n 2 ≡ false → motor_deed i n d ≡ None
-none_for n First d p q = ap (λ t. cond t (Some d) None) p
-none_for n Second d p q = ap (λ t. cond t (Some d) None) q
+pub report_nobody : {C A D : Type 0} (k : Rules C A) (meaning : D → Coils) (did : Did D) (n f : ℕ) (x : Inner A D C) (r : Answer) → r ≡ Err UnknownMotor → ((i : CoilId) → eqb n (number i) ≡ false) → Called k meaning did Running (report n f) x x r
+report_nobody k meaning did n f x r e none = untouched k meaning did Running (report n f) x r (e ∙ sym (by_no_number n (λ _. flags_answer f) (Err UnknownMotor) none))
+    (λ i. ap (lives k i (share k.kind meaning x i)) (cond-false (eqb n (number i)) (Some (reports f)) None (none i))) (λ i c w v. ap (points_after i c w v) (cond-false (eqb n (number i)) (Some (reports f)) None (none i))) (by_no_number n (λ i. note_calls i f) [] none)
 
-neither : {X : Type 0} (n : ℕ) (x y z : X) → eqb n 1 ≡ false → eqb n 2 ≡ false → cond (eqb n 1) x (cond (eqb n 2) y z) ≡ z
-neither n x y z p q = ap (λ t. cond t x (cond (eqb n 2) y z)) p ∙ ap (λ t. cond t y z) q
-
-pub report_nobody : {C A D : Type 0} (k : Rules C A) (meaning : D → Coils) (did : Did D) (n f : ℕ) (x : Inner A D C) (r : Answer) → r ≡ Err UnknownMotor → eqb n 1 ≡ false → eqb n 2 ≡ false → Called k meaning did Running (report n f) x x r
-report_nobody k meaning did n f x r e p q = untouched k meaning did Running (report n f) x r (e ∙ sym (neither n (flags_answer f) (flags_answer f) (Err UnknownMotor) p q))
-    (λ i. ap (lives k i (share k.kind meaning x i)) (none_for n i (reports f) p q)) (λ i c w v. ap (points_after i c w v) (none_for n i (reports f) p q)) (neither n (note_calls First f) (note_calls Second f) [] p q)
-
-pub acknowledge_nobody : {C A D : Type 0} (k : Rules C A) (meaning : D → Coils) (did : Did D) (n : ℕ) (x : Inner A D C) (r : Answer) → r ≡ Err UnknownMotor → eqb n 1 ≡ false → eqb n 2 ≡ false → Called k meaning did Running (acknowledgement n) x x r
-acknowledge_nobody k meaning did n x r e p q = untouched k meaning did Running (acknowledgement n) x r (e ∙ sym (neither n (Ok tt) (Ok tt) (Err UnknownMotor) p q))
-    (λ i. ap (lives k i (share k.kind meaning x i)) (none_for n i acknowledges p q)) (λ i c w v. ap (points_after i c w v) (none_for n i acknowledges p q)) (neither n (on First Clear ∷ []) (on Second Clear ∷ []) [] p q)
+pub acknowledge_nobody : {C A D : Type 0} (k : Rules C A) (meaning : D → Coils) (did : Did D) (n : ℕ) (x : Inner A D C) (r : Answer) → r ≡ Err UnknownMotor → ((i : CoilId) → eqb n (number i) ≡ false) → Called k meaning did Running (acknowledgement n) x x r
+acknowledge_nobody k meaning did n x r e none = untouched k meaning did Running (acknowledgement n) x r (e ∙ sym (by_no_number n (λ _. Ok tt) (Err UnknownMotor) none))
+    (λ i. ap (lives k i (share k.kind meaning x i)) (cond-false (eqb n (number i)) (Some acknowledges) None (none i))) (λ i c w v. ap (points_after i c w v) (cond-false (eqb n (number i)) (Some acknowledges) None (none i))) (by_no_number n (λ i. on i Clear ∷ []) [] none)
 
 -- flags that there are not
 pub report_flags : {C A D : Type 0} (k : Rules C A) (meaning : D → Coils) (did : Did D) (i : CoilId) (n f : ℕ) (x : Inner A D C) → n ≡ number i → ltb f 16 ≡ false → Called k meaning did Running (report n f) x x (Err UnknownFlags)
 report_flags {C} {A} {D} k meaning did i n f x is high =
     let P : ℕ → Type 0 = λ m. Called k meaning did Running (report m f) x x (Err UnknownFlags) in
     subst P (sym is) (untouched k meaning did Running (report (number i) f) x (Err UnknownFlags)
-    (ap (λ t. cond t (Ok tt) (Err UnknownFlags)) (sym high) ∙ sym (for_motor i (λ _. flags_answer f) (Err UnknownMotor)))
-    (λ j. by (eqb (number i) (number j)) j) (λ j c w v. bare (eqb (number i) (number j)) j c w v)
-    (for_motor i (λ j. note_calls j f) [] ∙ ap (λ t. cond t (on i (Note f) ∷ []) []) high))
-  where
-    by : (t : Bool) (j : CoilId) → lives k j (share k.kind meaning x j) (cond t (Some (reports f)) None) ≡ share k.kind meaning x j
-    by true j = ap (λ t. with_flags (share k.kind meaning x j) (cond t (noted (share k.kind meaning x j).flags f) (share k.kind meaning x j).flags)) high
-    by false j = refl
-
-    bare : (t : Bool) (j : CoilId) (c : Coil) (w v : ℕ) → points_after j c w v (cond t (Some (reports f)) None) ≡ c.points
-    bare true j c w v = ap (λ t. cond t (cond (tripped (noted c.flags f)) 0 c.points) c.points) high
-    bare false j c w v = refl
+    (sym (cond-false _ _ _ high) ∙ sym (by_own_number i (λ _. flags_answer f) (Err UnknownMotor)))
+    (λ j. cond_both (eqb (number i) (number j)) (Some (reports f)) None (λ o. lives k j (share k.kind meaning x j) o ≡ share k.kind meaning x j)
+    (λ _. ap (λ t. with_flags (share k.kind meaning x j) (cond t (noted (share k.kind meaning x j).flags f) (share k.kind meaning x j).flags)) high) (λ _. refl))
+    (λ j c w v. cond_both (eqb (number i) (number j)) (Some (reports f)) None (λ o. points_after j c w v o ≡ c.points)
+    (λ _. cond-false _ _ _ high) (λ _. refl))
+    (by_own_number i (λ j. note_calls j f) [] ∙ cond-false _ _ _ high))
 
 -- cycles
 
-cycle_moves : (i : CoilId) (orders : List ℕ) (room : ℕ) → length orders ≡ 16 → room ≡ 16 → cycle_deed i orders room ≡ moves (half i orders)
-cycle_moves i orders room p q = ap (λ n. cond (eqb n 16) (cond (eqb room 16) (moves (half i orders)) (misses (length orders) room)) (misses (length orders) room)) p ∙ ap (λ n. cond (eqb n 16) (moves (half i orders)) (misses (length orders) room)) q
+sized : {X : Type 0} (n m : ℕ) (x y : X) → n ≡ 16 → m ≡ 16 → where_sized n m x y ≡ x
+sized n m x y p q = ap (λ k. where_sized k m x y) p ∙ ap (λ k. where_sized 16 k x y) q
 
 pub called_cycle : {C A D : Type 0} (k : Rules C A) (meaning : D → Coils) (did : Did D) (x y z : Inner A D C) (orders bytes : List ℕ) (room : ℕ) → length orders ≡ 16 → room ≡ 16 →
     Moved k.kind meaning did x y orders bytes → Shared k.kind meaning did y z → Called k meaning did Running (cycle orders room) x z (Ok tt)
@@ -187,17 +153,17 @@ called_cycle {C} {A} {D} k meaning did x y z orders bytes room p q m s =
     let w : (i : CoilId) → wanted k.kind (share k.kind meaning y i) ≡ wanted k.kind (moved_share k.kind i (share k.kind meaning x i) (half i orders)) = λ i. ap (wanted k.kind) (m.motors i) in
     record {
       number = ap (λ n. cond (eqb n 16) (Ok tt) (Err AnswerLength)) (sym q) ∙ ap (λ n. length_answer n room) (sym p);
-      motors = λ i. now i ∙ ap (λ d. lives k i (share k.kind meaning x i) (Some d)) (sym (cycle_moves i orders room p q));
+      motors = λ i. now i ∙ ap (λ d. lives k i (share k.kind meaning x i) (Some d)) (sym (sized (length orders) room (moves (half i orders)) (misses (length orders) room) p q));
       points = λ i. s.points i
           ∙ ap (λ v. granted i v (wanted k.kind (share k.kind meaning y Second))) (ap (wanted k.kind) (sym (s.motors First)))
           ∙ ap (λ v. granted i (wanted k.kind (share k.kind meaning z First)) v) (ap (wanted k.kind) (sym (s.motors Second)))
-          ∙ ap (λ d. points_after i (at (meaning x.driver) i) (wanted k.kind (share k.kind meaning z First)) (wanted k.kind (share k.kind meaning z Second)) (Some d)) (sym (cycle_moves i orders room p q));
+          ∙ ap (λ d. points_after i (at (meaning x.driver) i) (wanted k.kind (share k.kind meaning z First)) (wanted k.kind (share k.kind meaning z Second)) (Some d)) (sym (sized (length orders) room (moves (half i orders)) (misses (length orders) room) p q));
       driver = chain_join did x.driver y.driver z.driver (move_calls k.kind First h orders ++ move_calls k.kind Second g orders)
           (feeds (wanted k.kind (share k.kind meaning y First)) (wanted k.kind (share k.kind meaning y Second)))
           (calls k h g (cycle orders room)) m.driver s.driver
           (ap (λ v. (move_calls k.kind First h orders ++ move_calls k.kind Second g orders) ++ feeds v (wanted k.kind (share k.kind meaning y Second))) (w First)
           ∙ ap (λ v. (move_calls k.kind First h orders ++ move_calls k.kind Second g orders) ++ feeds (wanted k.kind (moved_share k.kind First h (half First orders))) v) (w Second)
-          ∙ ap (λ n. cond (eqb n 16) (cycle_calls k h g orders) []) (sym q) ∙ ap (λ n. cond (eqb n 16) (cond (eqb room 16) (cycle_calls k h g orders) []) []) (sym p));
+          ∙ sym (sized (length orders) room (cycle_calls k h g orders) [] p q));
       refused = no_refusal;
     }
 
@@ -205,7 +171,7 @@ pub filled : {C A D : Type 0} (k : Rules C A) (meaning : D → Coils) (did : Did
 filled k meaning did x y orders before bytes m = record { halves = λ i _. m.halves i; untouched = no_refusal }
 
 pub not_filled : {C A D : Type 0} (k : Rules C A) (meaning : D → Coils) (x : Inner A D C) (orders before bytes : List ℕ) (e : Refusal) → bytes ≡ before → Filled k meaning x orders before bytes (Err e)
-not_filled k meaning x orders before bytes e same = record { halves = λ i h. let n : ◌≡◌ {A = ℕ} 0 1 = ap (λ t. cond t 1 0) h in absurd (omega arith); untouched = λ _. same }
+not_filled k meaning x orders before bytes e same = record { halves = λ i h. cc; untouched = λ _. same }
 
 -- a cycle of other lengths: each motor misses it
 missed : {C A D : Type 0} (k : Rules C A) (meaning : D → Coils) (did : Did D) (x : Inner A D C) (orders : List ℕ) (room : ℕ) (e : Refusal) → Err e ≡ length_answer (length orders) room →
@@ -214,15 +180,15 @@ missed k meaning did x orders room e num deeds none = untouched k meaning did Ru
 
 pub record_length : {C A D : Type 0} (k : Rules C A) (meaning : D → Coils) (did : Did D) (x : Inner A D C) (orders : List ℕ) (room : ℕ) (r : Answer) → r ≡ Err RecordLength → eqb (length orders) 16 ≡ false → Called k meaning did Running (cycle orders room) x x r
 record_length k meaning did x orders room r e p = subst (Called k meaning did Running (cycle orders room) x x) (sym e) (missed k meaning did x orders room RecordLength
-    (ap (λ t. cond t (cond (eqb room 16) (Ok tt) (Err AnswerLength)) (Err RecordLength)) (sym p))
-    (λ i. ap (λ t. cond t (cond (eqb room 16) (moves (half i orders)) (misses (length orders) room)) (misses (length orders) room)) p)
-    (ap (λ t. cond t (cond (eqb room 16) (cycle_calls k (share k.kind meaning x First) (share k.kind meaning x Second) orders) []) []) p))
+    (sym (cond-false _ _ _ p))
+    (λ i. cond-false _ _ _ p)
+    (cond-false _ _ _ p))
 
 pub answer_length : {C A D : Type 0} (k : Rules C A) (meaning : D → Coils) (did : Did D) (x : Inner A D C) (orders : List ℕ) (room : ℕ) → eqb (length orders) 16 ≡ true → eqb room 16 ≡ false → Called k meaning did Running (cycle orders room) x x (Err AnswerLength)
 answer_length k meaning did x orders room p q = missed k meaning did x orders room AnswerLength
-    (ap (λ t. cond t (Ok tt) (Err AnswerLength)) (sym q) ∙ ap (λ t. cond t (cond (eqb room 16) (Ok tt) (Err AnswerLength)) (Err RecordLength)) (sym p))
-    (λ i. ap (λ t. cond t (cond (eqb room 16) (moves (half i orders)) (misses (length orders) room)) (misses (length orders) room)) p ∙ ap (λ t. cond t (moves (half i orders)) (misses (length orders) room)) q)
-    (ap (λ t. cond t (cond (eqb room 16) (cycle_calls k (share k.kind meaning x First) (share k.kind meaning x Second) orders) []) []) p ∙ ap (λ t. cond t (cycle_calls k (share k.kind meaning x First) (share k.kind meaning x Second) orders) []) q)
+    (sym (cond-false _ _ _ q) ∙ sym (cond-true _ _ _ p))
+    (λ i. cond-true _ _ _ p ∙ cond-false _ _ _ q)
+    (cond-true _ _ _ p ∙ cond-false _ _ _ q)
 
 -- settings
 
@@ -245,11 +211,7 @@ lived k stage n v i h o e = ap (λ p. lives k i h (set_deed i stage p n v)) e �
 
 set_points : (i : CoilId) (stage : Stage) (o : Option Register) (n : ℕ) (x : ℤ) (c : Coil) (w v : ℕ) → points_after i c w v (set_deed i stage o n x) ≡ c.points
 set_points i stage None n x c w v = refl
-set_points i stage (Some r) n x c w v = so (concerns i r.setting)
-  where
-    so : (t : Bool) → points_after i c w v (cond t (Some (sets stage n x)) None) ≡ c.points
-    so true = refl
-    so false = refl
+set_points i stage (Some r) n x c w v = cond_both (concerns i r.setting) (Some (sets stage n x)) None (λ o. points_after i c w v o ≡ c.points) (λ _. refl) (λ _. refl)
 
 -- a setting of a register that the table has as o
 called_set : {C A D : Type 0} (k : Rules C A) (meaning : D → Coils) (did : Did D) (stage : Stage) (n : ℕ) (v : ℤ) (x y : Inner A D C) (r : Answer) (o : Option Register) → look_up k.lines n ≡ o →
@@ -270,18 +232,14 @@ set_unknown k meaning did stage n v x r num e = called_set k meaning did stage n
 
 closed : {C A : Type 0} (k : Kind C A) (stage : Stage) (r : Register) (i : CoilId) (h : Share C A) (v : ℤ) → is_open r.opened stage ≡ false → h ≡ set_lived k stage (Some r) i h v
 unfolding set_lived
-closed {C} {A} k stage r i h v e = so (concerns i r.setting)
+closed k stage r i h v e = cond_both (concerns i r.setting) (set_share k stage (Some r) h v) h (λ z. h ≡ z) (λ _. still) (λ _. refl)
   where
     still : h ≡ set_share k stage (Some r) h v
-    still = same_share h (set_share k stage (Some r) h v) (ap (λ t. cond t (configured k r.setting h.config v) h.config) (sym e)) refl (ap (λ t. cond t (adjusted r.setting (powered k h) h.currents v) h.currents) (sym e)) refl refl refl refl
-
-    so : (t : Bool) → h ≡ cond t (set_share k stage (Some r) h v) h
-    so true = still
-    so false = refl
+    still = same_share h (set_share k stage (Some r) h v) (sym (cond-false _ _ _ e)) refl (sym (cond-false _ _ _ e)) refl refl refl refl
 
 pub set_closed : {C A D : Type 0} (k : Rules C A) (meaning : D → Coils) (did : Did D) (stage : Stage) (n : ℕ) (v : ℤ) (x : Inner A D C) (r : Register) → look_up k.lines n ≡ Some r → is_open r.opened stage ≡ false → Called k meaning did stage (setting n v) x x (Err Closed)
 set_closed k meaning did stage n v x r e c = called_set k meaning did stage n v x x (Err Closed) (Some r) e
-    (ap (λ t. cond t (value_answer k.kind r.setting (powered k.kind (set_motor r.setting (share k.kind meaning x First) (share k.kind meaning x Second))) v) (Err Closed)) (sym c))
+    (sym (cond-false _ _ _ c))
     (λ i. closed k.kind stage r i (share k.kind meaning x i) v c) refl (λ _. refl)
 
 -- the register that was found, by what it sets
@@ -295,9 +253,9 @@ unfolding set_lived
 set_config {C} {A} {D} k meaning did stage n v x y a r e is opens num after =
     let config : C = unwrap_or (k.kind.config v) x.configuration.model in
     called_set k meaning did stage n v x y a (Some (record { setting = Configuration; opened = r.opened })) (found_as (look_up k.lines n) r Configuration e is)
-    (num ∙ ap (λ t. cond t (in_range (k.kind.config v) (Ok tt)) (Err Closed)) (sym opens))
+    (num ∙ sym (cond-true _ _ _ opens))
     (λ i. ap (λ z. share k.kind meaning z i) after ∙ same_share (share k.kind meaning (with_config x config) i) (set_share k.kind stage (Some (record { setting = Configuration; opened = r.opened })) (share k.kind meaning x i) v)
-    (ap (λ t. cond t config x.configuration.model) (sym opens)) refl (sym (either_way (is_open r.opened stage) (share k.kind meaning x i).currents)) refl refl refl refl)
+    (sym (cond-true _ _ _ opens)) refl (sym (either_way (is_open r.opened stage) (share k.kind meaning x i).currents)) refl refl refl refl)
     (ap (λ z. z.driver) after) (refused (k.kind.config v) num after)
   where
     refused : (o : Option C) → a ≡ in_range o (Ok tt) → y ≡ with_config x (unwrap_or o x.configuration.model) → is_err a ≡ true → y ≡ x
@@ -311,7 +269,7 @@ set_motor_current {C} {A} {D} k meaning did stage n v x y a r i which e is opens
     let s : Setting = Current i which in
     let o : Option Register = Some (record { setting = s; opened = r.opened }) in
     called_set k meaning did stage n v x y a o (found_as (look_up k.lines n) r s e is)
-    (t.number ∙ ap (λ h. value_answer k.kind s (powered k.kind h) v) (whose i) ∙ ap (λ b. cond b (value_answer k.kind s (powered k.kind (set_motor s (share k.kind meaning x First) (share k.kind meaning x Second))) v) (Err Closed)) (sym opens))
+    (t.number ∙ ap (λ h. value_answer k.kind s (powered k.kind h) v) (whose i) ∙ sym (cond-true _ _ _ opens))
     (λ j. t.motors j ∙ so j (share k.kind meaning x j) (concerns j s)) t.driver t.refused
   where
     whose : (i : CoilId) → share k.kind meaning x i ≡ set_motor (Current i which) (share k.kind meaning x First) (share k.kind meaning x Second)
@@ -320,7 +278,7 @@ set_motor_current {C} {A} {D} k meaning did stage n v x y a r i which e is opens
 
     so : (j : CoilId) (h : Share C A) (b : Bool) → with_currents h (cond b (adjusted (Current i which) (powered k.kind h) h.currents v) h.currents) ≡ cond b (set_share k.kind stage (Some (record { setting = Current i which; opened = r.opened })) h v) h
     so j h true = same_share (with_currents h (adjusted (Current i which) (powered k.kind h) h.currents v)) (set_share k.kind stage (Some (record { setting = Current i which; opened = r.opened })) h v)
-        (sym (either_way (is_open r.opened stage) h.config)) refl (ap (λ b. cond b (adjusted (Current i which) (powered k.kind h) h.currents v) h.currents) (sym opens)) refl refl refl refl
+        (sym (either_way (is_open r.opened stage) h.config)) refl (sym (cond-true _ _ _ opens)) refl refl refl refl
     so j h false = refl
 
 -- the same, where the value came through its bits

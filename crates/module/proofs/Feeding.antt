@@ -21,13 +21,13 @@ not_declined true p h = ap (λ n. not (eqb n 0)) (h refl)
 not_declined false p h = refl
 
 abbrev refed : Coil → ℕ → Coil
-refed c p = record { count = c.count; points = p; flags = c.flags }
+refed c p = record c { points = p }
 
 accepted : {D : Type 0} (meaning : D → Coils) (did : Did D) (i : CoilId) (d e : D) (p : ℕ) → declines_feed (at (meaning d) i).flags p ≡ false →
     meaning e ≡ put (meaning d) i (fed (at (meaning d) i) p) → Tried did (declines_feed (at (meaning d) i).flags p) d (on i (Feed p)) e →
     (meaning e ≡ put (meaning d) i (refed (at (meaning d) i) p)) × did d (on i (Feed p)) e
 accepted meaning did i d e p no_decline m t = (
-  m ∙ ap (λ b. put (meaning d) i (record { count = (at (meaning d) i).count; points = cond b (at (meaning d) i).points p; flags = (at (meaning d) i).flags })) no_decline,
+  m ∙ ap (λ b. put (meaning d) i (refed (at (meaning d) i) (cond b (at (meaning d) i).points p))) no_decline,
   subst (λ b. Tried did b d (on i (Feed p)) e) no_decline t,
 )
 
@@ -35,7 +35,7 @@ pub fed_both : {C A D : Type 0} (k : Kind C A) (meaning : D → Coils) (did : Di
     p ≡ granted First (wanted k (share k meaning x First)) (wanted k (share k meaning x Second)) → q ≡ granted Second (wanted k (share k meaning x First)) (wanted k (share k meaning x Second)) →
     meaning e ≡ put (meaning x.driver) First (fed (at (meaning x.driver) First) p) → Tried did (declines_feed (at (meaning x.driver) First).flags p) x.driver (on First (Feed p)) e →
     meaning f ≡ put (meaning e) Second (fed (at (meaning e) Second) q) → Tried did (declines_feed (at (meaning e) Second).flags q) e (on Second (Feed q)) f →
-    Shared k meaning did x (record { configuration = x.configuration; motors = x.motors; cycles = x.cycles; supply = s; driver = f })
+    Shared k meaning did x (record x { supply = s; driver = f })
 fed_both {C} {A} {D} k meaning did x s e f p q rested pe qe m t n u =
     let w : ℕ = wanted k (share k meaning x First) in
     let v : ℕ = wanted k (share k meaning x Second) in
@@ -46,7 +46,7 @@ fed_both {C} {A} {D} k meaning did x s e f p q rested pe qe m t n u =
     let second = accepted meaning did Second e f q
     (not_declined (tripped (at (meaning e) Second).flags) q (λ trip. let z = none trip in omega (arith, qe))) n u in
     let coils : meaning f ≡ record { first = refed (meaning x.driver).first p; second = refed (meaning x.driver).second q } = second.0 ∙ ap (λ (c : Coils). put c Second (refed (at c Second) q)) first.0 in
-    let y : Inner A D C = record { configuration = x.configuration; motors = x.motors; cycles = x.cycles; supply = s; driver = f } in
+    let y : Inner A D C = record x { supply = s; driver = f } in
     record {
       motors = λ i. elim i as (λ i. share k meaning y i ≡ share k meaning x i) [
         | First ↦ same_share (share k meaning y First) (share k meaning x First) refl refl refl refl refl (ap (λ (c : Coils). c.first.count) coils) (ap (λ (c : Coils). c.first.flags) coils)

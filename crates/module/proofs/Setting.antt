@@ -1,5 +1,5 @@
 -- Settings: what each answer of the gate leaves.
-use Rattle.std.proofs.Common.{◌≡◌, ℕ, ◌<◌, Bool, true, false, cond, length, get_or, set, ℤ, is_err, Some, None, Ok, Err, sym, refl, ap, ◌∙◌, arith}
+use Rattle.std.proofs.Common.{◌≡◌, ℕ, ◌<◌, Bool, true, false, cond, length, get_or, set, ℤ, is_err, Some, None, Ok, Err, sym, refl, ap, ◌∙◌}
 use Rattle.axis.specs.Kinds.{Kind}
 use Rattle.axis.specs.Levels.{levels, with_level}
 use Rattle.axis.specs.declared.currents.CurrentSetting.{CurrentSetting}
@@ -18,6 +18,7 @@ use Rattle.module.specs.declared.motor.Motor.{Motor}
 use Rattle.refusal.specs.declared.Refusal.{Refusal}
 use Rattle.refusal.specs.declared.Refusal.TheVariants.{MotorPowered, OutOfRange}
 use Rattle.registers.specs.declared.Setting.TheVariants.{Current}
+use Rattle.std.proofs.lemmas.Bool.{cond-false, cond-true}
 
 pub either_way : {X : Type 0} (b : Bool) (x : X) → cond b x x ≡ x
 either_way true x = refl
@@ -39,12 +40,12 @@ out_of_range k meaning i which v x r n e = record {
   refused = λ _. refl;
 }
 
-is_refused : {b : Bool} → b ≡ false → b ≡ true → {X : Type 0} → X
-is_refused {b} e h {X} = let n : ◌≡◌ {A = ℕ} 0 1 = ap (λ t. cond t 1 0) (sym e ∙ h) in absurd (omega arith)
+pub no_refusal : {X : Type 0} → is_err {T = Unit {0}} {E = Refusal} (Ok tt) ≡ true → X
+no_refusal e = cc
 
 pub still_powered : {C A D : Type 0} (k : Kind C A) (meaning : D → Coils) (i : CoilId) (which : CurrentSetting) (v : ℤ) (n : ℕ) (x : Inner A D C) → points_from v ≡ Some n → powered k (share k meaning x i) ≡ true → Adjusted k meaning i which v x x (Err MotorPowered)
 still_powered k meaning i which v n x e p = record {
-  number = ap (λ b. cond b (Err MotorPowered) (Ok tt)) (sym p) ∙ ap (λ o. in_range o (cond (powered k (share k meaning x i)) (Err MotorPowered) (Ok tt))) (sym e);
+  number = sym (cond-true _ _ _ p) ∙ ap (λ o. in_range o (cond (powered k (share k meaning x i)) (Err MotorPowered) (Ok tt))) (sym e);
   motors = λ j. unchanged k i j which v (share k meaning x j) (λ same. ap (λ b. cond b (share k meaning x j).currents (with_points (share k meaning x j).currents which (points_from v))) (ap (λ z. powered k (share k meaning x z)) (sym same) ∙ p));
   driver = refl;
   refused = λ _. refl;
@@ -54,9 +55,9 @@ still_powered k meaning i which v n x e p = record {
 pub set_current : {C A D : Type 0} (k : Kind C A) (meaning : D → Coils) (i : CoilId) (which : CurrentSetting) (v : ℤ) (n p : ℕ) (x : Inner A D C) (m : Motor A) (d : Motor A) →
     points_from v ≡ Some n → powered k (share k meaning x i) ≡ false → p ≡ place i → p < length x.motors →
     m.axis ≡ (get_or x.motors p d).axis → levels m.currents ≡ with_level (levels (get_or x.motors p d).currents) which n → m.fault ≡ (get_or x.motors p d).fault →
-    Adjusted k meaning i which v x (record { configuration = x.configuration; motors = set x.motors p m; cycles = x.cycles; supply = x.supply; driver = x.driver }) (Ok tt)
+    Adjusted k meaning i which v x (record x { motors = set x.motors p m }) (Ok tt)
 set_current {C} {A} {D} k meaning i which v n p x m d e b pe h axis currents fault =
-    let y : Inner A D C = record { configuration = x.configuration; motors = set x.motors p m; cycles = x.cycles; supply = x.supply; driver = x.driver } in
+    let y : Inner A D C = record x { motors = set x.motors p m } in
     let there = motor_there k x.motors i p d pe h in
     let put = motor_put k x.motors i p m pe h in
     let own : share k meaning y i ≡ with_currents (share k meaning x i) (adjusted (Current i which) (powered k (share k meaning x i)) (share k meaning x i).currents v) =
@@ -69,15 +70,15 @@ set_current {C} {A} {D} k meaning i which v n p x m d e b pe h axis currents fau
     let other : (j : CoilId) → (i ≡ j → ⊥) → share k meaning y j ≡ share k meaning x j =
     λ j ne. ap (λ z. share_of x.configuration.model z x.cycles (at (meaning x.driver) j)) (ap (λ q. motor_at k (set x.motors q m) j) pe ∙ other_motor k i j x.motors m ne) in
     record {
-      number = ap (λ t. cond t (Err MotorPowered) (Ok tt)) (sym b) ∙ ap (λ o. in_range o (cond (powered k (share k meaning x i)) (Err MotorPowered) (Ok tt))) (sym e);
+      number = sym (cond-false _ _ _ b) ∙ ap (λ o. in_range o (cond (powered k (share k meaning x i)) (Err MotorPowered) (Ok tt))) (sym e);
       motors = λ j. by i j y own other;
       driver = refl;
-      refused = λ z. is_refused {b = is_err {T = Unit {0}} {E = Refusal} (Ok tt)} refl z;
+      refused = no_refusal;
     }
   where
     by : (i j : CoilId) (y : Inner A D C) → share k meaning y i ≡ with_currents (share k meaning x i) (adjusted (Current i which) (powered k (share k meaning x i)) (share k meaning x i).currents v) →
         ((j : CoilId) → (i ≡ j → ⊥) → share k meaning y j ≡ share k meaning x j) → share k meaning y j ≡ adjusted_share k (Current i which) j (share k meaning x j) v
     by First First y own other = own
-    by First Second y own other = other Second (λ q. let n : ◌≡◌ {A = ℕ} 0 1 = ap place q in absurd (omega arith))
-    by Second First y own other = other First (λ q. let n : ◌≡◌ {A = ℕ} 1 0 = ap place q in absurd (omega arith))
+    by First Second y own other = other Second (λ q. cc)
+    by Second First y own other = other First (λ q. cc)
     by Second Second y own other = own

@@ -1,5 +1,5 @@
 -- One motor of the table of two, read and written at its place.
-use Rattle.std.proofs.Common.{◌≡◌, ℕ, zero, suc, ◌<◌, Bool, List, [], ◌∷◌, length, get_or, set, sym, refl, ap, ◌∙◌, subst, arith, get_or-set_same}
+use Rattle.std.proofs.Common.{◌≡◌, ℕ, ◌<◌, Bool, List, length, get_or, set, sym, ap, ◌∙◌, subst, get_or-set_same}
 use Rattle.axis.specs.Kinds.{Kind, Seen}
 use Rattle.axis.specs.Levels.{chosen, is_powered, levels}
 use Rattle.coil.specs.Chains.{Did}
@@ -8,15 +8,11 @@ use Rattle.coil.specs.declared.CoilId.{CoilId}
 use Rattle.module.specs.Motors.{Turned}
 use Rattle.module.specs.Share.{idle, motor_at, place}
 use Rattle.module.specs.declared.motor.Motor.{Motor}
-
-any_default : {X : Type 0} (xs : List X) (i : ℕ) (d e : X) → i < length xs → get_or xs i d ≡ get_or xs i e
-any_default [] i d e h = absurd (omega arith)
-any_default (x ∷ xs) zero d e h = refl
-any_default (x ∷ xs) (suc i) d e h = any_default xs i d e (omega arith)
+use Rattle.std.proofs.lemmas.List.{get_or_default}
 
 -- the motor that stood at a place
 pub motor_there : {C A : Type 0} (k : Kind C A) (ms : List (Motor A)) (i : CoilId) (p : ℕ) (d : Motor A) → p ≡ place i → p < length ms → get_or ms p d ≡ motor_at k ms i
-motor_there k ms i p d e h = any_default ms p d (idle k) h ∙ ap (λ q. get_or ms q (idle k)) e
+motor_there k ms i p d e h = get_or_default ms p d (idle k) h ∙ ap (λ q. get_or ms q (idle k)) e
 
 -- the motor that is put there
 pub motor_put : {C A : Type 0} (k : Kind C A) (ms : List (Motor A)) (i : CoilId) (p : ℕ) (m : Motor A) → p ≡ place i → p < length ms → motor_at k (set ms p m) i ≡ m

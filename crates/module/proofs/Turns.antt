@@ -1,8 +1,7 @@
 -- Both motors move, one after the other: neither shows in the other's share.
-use Rattle.std.proofs.Common.{◌≡◌, ℕ, true, List, ◌++◌, length, set, Option, sym, refl, ap, ◌∙◌, subst, arith, get_or-set_other}
-use Rattle.axis.specs.Kinds.{Kind, Outcome, Seen, moved}
+use Rattle.std.proofs.Common.{◌≡◌, ℕ, List, ◌++◌, length, set, Option, sym, refl, ap, ◌∙◌, subst, arith, get_or-set_other}
+use Rattle.axis.specs.Kinds.{Kind, Outcome, Rests, moved}
 use Rattle.axis.specs.Levels.{Levels, levels}
-use Rattle.axis.specs.declared.currents.Current.TheVariants.{Off}
 use Rattle.coil.proofs.Chained.{chain_join}
 use Rattle.coil.specs.Chains.{Did}
 use Rattle.coil.specs.Coils.{at, at_put, at_put_other, put}
@@ -31,12 +30,9 @@ same_share {C} {A} h g config axis currents fault cycles count flags =
 
 -- the share after a turn, whose cycle has its number already
 abbrev turned_share : {C A : Type 0} → Kind C A → CoilId → Share C A → List ℕ → Share C A
-turned_share k i h orders = record {
-  config = h.config;
+turned_share k i h orders = record h {
   axis = (outcome k h orders).axis;
-  currents = h.currents;
   fault = latest i h.cycles (outcome k h orders).ending h.fault;
-  cycles = h.cycles;
   count = (outcome k h orders).count;
   flags = (outcome k h orders).flags;
 }
@@ -75,10 +71,7 @@ points_turn k meaning did i j x y orders bytes t = ap (λ (m : Coils). (at m j).
 
 -- a module whose next cycle has its number
 abbrev pub numbered : {C A D : Type 0} → Inner A D C → Inner A D C
-numbered x = record { configuration = x.configuration; motors = x.motors; cycles = next_cycle x.cycles; supply = x.supply; driver = x.driver }
-
-abbrev Rests : {C A : Type 0} → Kind C A → Type 0
-Rests {C} {A} k = (config : C) (x : A) (s : Seen) (orders : List ℕ) → tripped (k.cycle config x s orders).flags ≡ true → k.current (k.cycle config x s orders).axis ≡ Off
+numbered x = record x { cycles = next_cycle x.cycles }
 
 rested_share : {C A D : Type 0} (k : Kind C A) (meaning : D → Coils) (i : CoilId) (h : Share C A) (y : Inner A D C) (orders : List ℕ) → Rests k → share k meaning y i ≡ moved_share k i h orders → Rested k meaning y i
 rested_share k meaning i h y orders law e t =
@@ -88,8 +81,8 @@ both_moved : {C A D : Type 0} (k : Kind C A) (meaning : D → Coils) (did : Did 
     Turn k meaning did First (numbered x) y (half First orders) a → Turn k meaning did Second y z (half Second orders) b → half First bytes ≡ a → half Second bytes ≡ b →
     Moved k meaning did x z orders bytes
 both_moved {C} {A} {D} k meaning did x y z orders a b bytes law t u e f =
-    let apart : First ≡ Second → ⊥ = λ q. let n : ◌≡◌ {A = ℕ} 0 1 = ap place q in absurd (omega arith) in
-    let apart' : Second ≡ First → ⊥ = λ q. apart (sym q) in
+    let apart : First ≡ Second → ⊥ = λ q. cc in
+    let apart' : Second ≡ First → ⊥ = λ q. cc in
     let still : share k meaning y Second ≡ share k meaning (numbered x) Second = other_share k meaning did First Second (numbered x) y (half First orders) a t apart in
     let one : share k meaning z First ≡ moved_share k First (share k meaning x First) (half First orders) =
     other_share k meaning did Second First y z (half Second orders) b u apart' ∙ own_share k meaning did First (numbered x) y (half First orders) a t in

@@ -1,9 +1,9 @@
 -- What each call of a module does to each motor, what it answers, and which driver calls it makes. Assumes nothing.
-use Rattle.std.specs.Prelude.{ℕ, ◌+◌, ◌%◌, ◌^◌, Bool, true, false, cond, List, [], ◌∷◌, ◌++◌, map, length, take, drop, ℤ, Some, None, Ok, Err, Option, Result, ◌==◌, nat_lt}
+use Rattle.std.specs.Prelude.{ℕ, ◌+◌, ◌%◌, ◌^◌, Bool, true, cond, List, [], ◌∷◌, ◌++◌, map, length, take, drop, ℤ, Some, None, Ok, Err, Option, Result, ◌==◌, nat_lt}
 use Rattle.axis.specs.Kinds.{Kind, Outcome}
 use Rattle.axis.specs.Levels.{Levels, with_level}
 use Rattle.axis.specs.declared.currents.CurrentSetting.{CurrentSetting}
-use Rattle.coil.specs.Numbers.{points_from}
+use Rattle.coil.specs.Numbers.{by_number, number, points_from}
 use Rattle.coil.specs.Chains.{on}
 use Rattle.coil.specs.Meaning.{Coil, cleared, noted, tripped}
 use Rattle.coil.specs.declared.CoilCall.TheVariants.{Feed, Note, Clear}
@@ -25,7 +25,7 @@ use Rattle.supply.specs.Shares.{granted}
 
 -- a module with another configuration
 abbrev pub with_config : {C A D : Type 0} → Inner A D C → C → Inner A D C
-with_config x config = record { configuration = record { model = config }; motors = x.motors; cycles = x.cycles; supply = x.supply; driver = x.driver }
+with_config x config = record x { configuration = record { model = config } }
 
 -- what can be asked of a module
 pub data Asked : Type 0 where
@@ -70,12 +70,12 @@ setting_answer k stage (Some r) is_powered v = cond (is_open r.opened stage) (va
 abbrev pub length_answer : ℕ → ℕ → Answer
 length_answer record_length answer_length = cond (record_length == 16) (cond (answer_length == 16) (Ok tt) (Err AnswerLength)) (Err RecordLength)
 
--- what motor 1 or motor 2 gives, or the refusal of any other number
-abbrev pub of_motor : {X : Type 0} → ℕ → X → X → Result X Refusal
-of_motor n x y = cond (n == 1) (Ok x) (cond (n == 2) (Ok y) (Err UnknownMotor))
+-- what the motor with this number gives, or the refusal of a number that no motor has
+abbrev pub of_motor : {X : Type 0} → ℕ → (CoilId → X) → Result X Refusal
+of_motor n f = by_number n (λ i. Ok (f i)) (Err UnknownMotor)
 
 abbrev pub motor_answer : ℕ → Answer → Answer
-motor_answer n next = cond (n == 1) next (cond (n == 2) next (Err UnknownMotor))
+motor_answer n next = by_number n (λ _. next) (Err UnknownMotor)
 
 abbrev pub flags_answer : ℕ → Answer
 flags_answer flags = cond (nat_lt flags 16) (Ok tt) (Err UnknownFlags)
@@ -104,14 +104,9 @@ currents_after stage (Some r) is_powered currents v = cond (is_open r.opened sta
 
 -- a motor after a setting that concerns it
 abbrev pub set_share : {C A : Type 0} → Kind C A → Stage → Option Register → Share C A → ℤ → Share C A
-set_share k stage found h v = record {
+set_share k stage found h v = record h {
   config = config_after k stage found h.config v;
-  axis = h.axis;
   currents = currents_after stage found (powered k h) h.currents v;
-  fault = h.fault;
-  cycles = h.cycles;
-  count = h.count;
-  flags = h.flags;
 }
 
 -- what the kind of axis makes of a motor's eight bytes
@@ -124,14 +119,12 @@ next_cycle n = (n + 1) % 2 ^ 32
 
 -- a motor with other current settings
 abbrev pub with_currents : {C A : Type 0} → Share C A → Levels → Share C A
-with_currents h currents = record { config = h.config; axis = h.axis; currents = currents; fault = h.fault; cycles = h.cycles; count = h.count; flags = h.flags }
+with_currents h currents = record h { currents = currents }
 
 -- the motor i after an accepted cycle
 abbrev pub moved_share : {C A : Type 0} → Kind C A → CoilId → Share C A → List ℕ → Share C A
-moved_share k i h orders = record {
-  config = h.config;
+moved_share k i h orders = record h {
   axis = (outcome k h orders).axis;
-  currents = h.currents;
   fault = latest i (next_cycle h.cycles) (outcome k h orders).ending h.fault;
   cycles = next_cycle h.cycles;
   count = (outcome k h orders).count;
@@ -144,24 +137,8 @@ after k i h (sets stage n v) = set_share k.kind stage (look_up k.lines n) h v
 after k i h starts = h
 after k i h (moves orders) = moved_share k.kind i h orders
 after k i h (misses n m) = h
-after k i h (reports f) = record {
-  config = h.config;
-  axis = h.axis;
-  currents = h.currents;
-  fault = h.fault;
-  cycles = h.cycles;
-  count = h.count;
-  flags = cond (nat_lt f 16) (noted h.flags f) h.flags;
-}
-after k i h acknowledges = record {
-  config = h.config;
-  axis = h.axis;
-  currents = h.currents;
-  fault = h.fault;
-  cycles = h.cycles;
-  count = h.count;
-  flags = cleared h.flags;
-}
+after k i h (reports f) = record h { flags = cond (nat_lt f 16) (noted h.flags f) h.flags }
+after k i h acknowledges = record h { flags = cleared h.flags }
 
 -- the motor i after a call that may not concern it
 abbrev pub lives : {C A : Type 0} → Rules C A → CoilId → Share C A → Option Deed → Share C A
@@ -172,10 +149,7 @@ lives k i h (Some d) = after k i h d
 
 abbrev pub concerns : CoilId → Setting → Bool
 concerns i Configuration = true
-concerns First (Current First which) = true
-concerns First (Current Second which) = false
-concerns Second (Current First which) = false
-concerns Second (Current Second which) = true
+concerns i (Current j which) = number i == number j
 
 -- the motor i after a setting of a current, taken or refused
 abbrev pub adjusted_share : {C A : Type 0} → Kind C A → Setting → CoilId → Share C A → ℤ → Share C A
@@ -190,13 +164,12 @@ abbrev pub half : CoilId → List ℕ → List ℕ
 half First bytes = take 8 bytes
 half Second bytes = drop 8 bytes
 
-abbrev pub cycle_deed : CoilId → List ℕ → ℕ → Deed
-cycle_deed i orders room = cond (length orders == 16) (cond (room == 16) (moves (half i orders)) (misses (length orders) room)) (misses (length orders) room)
+-- x for a cycle whose record and answer buffer have 16 bytes each, else y
+abbrev pub where_sized : {X : Type 0} → ℕ → ℕ → X → X → X
+where_sized record_length answer_length x y = cond (record_length == 16) (cond (answer_length == 16) x y) y
 
--- the number of a motor
-abbrev pub number : CoilId → ℕ
-number First = 1
-number Second = 2
+abbrev pub cycle_deed : CoilId → List ℕ → ℕ → Deed
+cycle_deed i orders room = where_sized (length orders) room (moves (half i orders)) (misses (length orders) room)
 
 abbrev pub motor_deed : CoilId → ℕ → Deed → Option Deed
 motor_deed i n d = cond (n == number i) (Some d) None
@@ -247,17 +220,14 @@ cycle_calls k h g orders =
     (move_calls k.kind First h orders ++ move_calls k.kind Second g orders)
     ++ feeds (wanted k.kind (after k First h (moves (half First orders)))) (wanted k.kind (after k Second g (moves (half Second orders))))
 
-abbrev pub to_motor : ℕ → List DriverCall → List DriverCall → List DriverCall
-to_motor n x y = cond (n == 1) x (cond (n == 2) y [])
-
 abbrev pub note_calls : CoilId → ℕ → List DriverCall
 note_calls i f = cond (nat_lt f 16) (on i (Note f) ∷ []) []
 
 abbrev pub calls : {C A : Type 0} → Rules C A → Share C A → Share C A → Asked → List DriverCall
 calls k h g (setting n v) = []
-calls k h g (cycle orders room) = cond (length orders == 16) (cond (room == 16) (cycle_calls k h g orders) []) []
-calls k h g (report n f) = to_motor n (note_calls First f) (note_calls Second f)
-calls k h g (acknowledgement n) = to_motor n (on First Clear ∷ []) (on Second Clear ∷ [])
+calls k h g (cycle orders room) = where_sized (length orders) room (cycle_calls k h g orders) []
+calls k h g (report n f) = by_number n (λ i. note_calls i f) []
+calls k h g (acknowledgement n) = by_number n (λ i. on i Clear ∷ []) []
 
 -- making a module feeds 0 to both coils
 abbrev pub first_calls : List DriverCall

@@ -126,28 +126,28 @@ impl<S, A: Model, D: CoilDriver> Module<S, A, D> {
 
     // The latest fault of a motor, if there was one.
     pub fn latest_fault(&self, motor: u8) -> Result<Option<Fault>, Refusal>
-        ensures { result ≡ of_motor motor (share A.Axis.kind D.CoilDriver.meaning self.now.inner First).fault (share A.Axis.kind D.CoilDriver.meaning self.now.inner Second).fault }
+        ensures { result ≡ of_motor motor (λ i. (share A.Axis.kind D.CoilDriver.meaning self.now.inner i).fault) }
     {
         Ok(self.state(CoilId::try_from(motor)?).fault)
     }
 
     // The count of a motor's coil, in microsteps.
     pub fn count(&self, motor: u8) -> Result<u32, Refusal>
-        ensures { result ≡ of_motor motor (D.CoilDriver.meaning self.now.inner.driver).first.count (D.CoilDriver.meaning self.now.inner.driver).second.count }
+        ensures { result ≡ of_motor motor (λ i. (at (D.CoilDriver.meaning self.now.inner.driver) i).count) }
     {
         Ok(self.inner.driver.count(CoilId::try_from(motor)?))
     }
 
     // The points that a motor's coil is fed.
     pub fn points(&self, motor: u8) -> Result<u8, Refusal>
-        ensures { result ≡ of_motor motor (D.CoilDriver.meaning self.now.inner.driver).first.points (D.CoilDriver.meaning self.now.inner.driver).second.points }
+        ensures { result ≡ of_motor motor (λ i. (at (D.CoilDriver.meaning self.now.inner.driver) i).points) }
     {
         Ok(self.inner.driver.points(CoilId::try_from(motor)?).value)
     }
 
     // The flags of a motor's coil.
     pub fn flags(&self, motor: u8) -> Result<u8, Refusal>
-        ensures { result ≡ of_motor motor (D.CoilDriver.meaning self.now.inner.driver).first.flags (D.CoilDriver.meaning self.now.inner.driver).second.flags }
+        ensures { result ≡ of_motor motor (λ i. (at (D.CoilDriver.meaning self.now.inner.driver) i).flags) }
     {
         Ok(self.inner.driver.flags(CoilId::try_from(motor)?))
     }

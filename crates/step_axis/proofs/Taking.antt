@@ -1,6 +1,11 @@
 -- The words of a cycle, taken one after the other.
 use Rattle.std.proofs.Common.{◌≡◌, ℕ, zero, suc, ◌+◌, ◌*◌, ◌%◌, ◌^◌, ◌<◌, Bool, true, false, cond, not, ◌&&◌, ◌||◌, eqb, List, [], ◌∷◌, ◌++◌, map, length, get_or, ℤ, pos, ◌+ℤ◌, ◌*ℤ◌, neg_ℤ, ◌≤ℤ◌, Ok, Err, Result, sym, refl, ap, ◌∙◌, subst, add-zero, mod-eq_of_lt, arith, lit<}
+use Rattle.std.proofs.Math.Bool.{or-false}
+use Rattle.std.proofs.lemmas.Bool.{and_right, or_left, or_right}
+use Rattle.std.proofs.lemmas.List.Elements.{filter-append}
+use Rattle.std.proofs.lemmas.List.Folds.{list_any-append}
 use Rattle.std.proofs.lemmas.List.{length-append, map-append}
+use Rattle.std.specs.List.{filter}
 use Rattle.std.proofs.lemmas.Int.{ints}
 use Rattle.std.specs.Result.{MatchResult, is_ok, result_unwrap_or}
 use Rattle.axis.specs.Levels.{is_powered}
@@ -12,7 +17,6 @@ use Rattle.coil.specs.Chains.{Chain, Did, Tried, on}
 use Rattle.coil.specs.Coils.{at, at_put, put, put_put, put_same}
 use Rattle.coil.specs.Meaning.{Coil, Coils, advanced, answered, tripped, with_count}
 use Rattle.coil.specs.Modulo.{modulo}
-use Rattle.coil.specs.declared.CoilCall.{CoilCall}
 use Rattle.coil.specs.declared.CoilCall.TheVariants.{Advance}
 use Rattle.coil.specs.declared.CoilFault.{CoilFault}
 use Rattle.coil.specs.declared.CoilFault.TheVariants.{Tripped}
@@ -39,10 +43,10 @@ times z s e = ap (λ x. x *ℤ pos s) e ∙ none s
 
 pub is_declined : (b : Bool) (f : ℕ) (r : Result (Unit {0}) CoilFault) (e : CoilFault) → r ≡ answered b f → r ≡ Err e → b ≡ true
 is_declined true f r e a h = refl
-is_declined false f r e a h = let z : ◌≡◌ {A = ℕ} 0 1 = cc in absurd (omega arith)
+is_declined false f r e a h = cc
 
 pub is_accepted : (b : Bool) (f : ℕ) (r : Result (Unit {0}) CoilFault) (u : Unit {0}) → r ≡ answered b f → r ≡ Ok u → b ≡ false
-is_accepted true f r u a h = let z : ◌≡◌ {A = ℕ} 0 1 = cc in absurd (omega arith)
+is_accepted true f r u a h = cc
 is_accepted false f r u a h = refl
 
 pub is_taken : (f w : ℕ) → is_powered (code w) ≡ true → tripped f ≡ false → taken f w ≡ true
@@ -52,11 +56,7 @@ pub not_taken_off : (f w : ℕ) → is_powered (code w) ≡ false → taken f w 
 not_taken_off f w p = ap (λ b. b && not (tripped f)) p
 
 pub not_taken_tripped : (f w : ℕ) → tripped f ≡ true → taken f w ≡ false
-not_taken_tripped f w t = ap (λ b. is_powered (code w) && not b) t ∙ none (is_powered (code w))
-  where
-    none : (b : Bool) → b && false ≡ false
-    none true = refl
-    none false = refl
+not_taken_tripped f w t = and_right (is_powered (code w)) (not (tripped f)) (ap not t)
 
 -- words of which none is taken leave the driver as it is
 pub took_nothing : {D : Type 0} (meaning : D → Coils) (did : Did D) (i : CoilId) (s : ℕ) (ws : List ℕ) (d : D) →
@@ -69,7 +69,7 @@ took_nothing meaning did i s ws d n sum none = record {
 pub took_not : {D : Type 0} (meaning : D → Coils) (did : Did D) (i : CoilId) (s w : ℕ) (d : D) →
     (at (meaning d) i).count < 2 ^ 32 → taken (at (meaning d) i).flags w ≡ false → Took meaning did i s (w ∷ []) d d
 took_not meaning did i s w d n e =
-    took_nothing meaning did i s (w ∷ []) d n (ap (λ t. cond t (steps w) (pos 0) +ℤ pos 0) e) (ap (λ t. cond t (Advance (steps w *ℤ pos s) ∷ []) []) e)
+    took_nothing meaning did i s (w ∷ []) d n (ap (λ t. cond t (steps w) (pos 0) +ℤ pos 0) e) (ap (λ t. map (λ v. Advance (steps v *ℤ pos s)) (cond t (w ∷ []) [])) e)
 
 -- a word that is taken
 pub took_one : {D : Type 0} (meaning : D → Coils) (did : Did D) (i : CoilId) (s w : ℕ) (d d' : D) →
@@ -81,7 +81,7 @@ took_one meaning did i s w d d' p f m c =
     let n : ℕ = (at (meaning d) i).count in
     let t : taken f₀ w ≡ true = is_taken f₀ w p f in
     let sum : steps_taken f₀ (w ∷ []) ≡ steps w = ap (λ b. cond b (steps w) (pos 0) +ℤ pos 0) t ∙ add_none (steps w) in
-    let calls : advances f₀ s (w ∷ []) ≡ Advance (steps w *ℤ pos s) ∷ [] = ap (λ b. cond b (Advance (steps w *ℤ pos s) ∷ []) []) t in
+    let calls : advances f₀ s (w ∷ []) ≡ Advance (steps w *ℤ pos s) ∷ [] = ap (λ b. map (λ v. Advance (steps v *ℤ pos s)) (cond b (w ∷ []) [])) t in
     record {
       coils = m ∙ ap (λ b. put (meaning d) i (with_count (at (meaning d) i) (cond b n (modulo (2 ^ 32) (pos n +ℤ steps w *ℤ pos s))))) f ∙ ap (λ z. put (meaning d) i (with_count (at (meaning d) i) (modulo (2 ^ 32) (pos n +ℤ z *ℤ pos s)))) (sym sum);
       calls = subst (λ cs. Chain did d (map (on i) cs) d') (sym calls) (d', (subst (λ b. Tried did b d (on i (Advance (steps w *ℤ pos s))) d') f c, refl));
@@ -101,20 +101,10 @@ steps_append f [] vs = omega (arith, ints)
 steps_append f (w ∷ ws) vs = omega (arith, ints, steps_append f ws vs)
 
 advances_append : (f s : ℕ) (ws vs : List ℕ) → advances f s (ws ++ vs) ≡ advances f s ws ++ advances f s vs
-advances_append f s [] vs = refl
-advances_append f s (w ∷ ws) vs = ap (λ cs. cond (taken f w) (Advance (steps w *ℤ pos s) ∷ cs) cs) (advances_append f s ws vs) ∙ by (taken f w) (advances f s ws) (advances f s vs)
-  where
-    by : (t : Bool) (xs ys : List CoilCall) → cond t (Advance (steps w *ℤ pos s) ∷ (xs ++ ys)) (xs ++ ys) ≡ cond t (Advance (steps w *ℤ pos s) ∷ xs) xs ++ ys
-    by true xs ys = refl
-    by false xs ys = refl
+advances_append f s ws vs = ap (map (λ w. Advance (steps w *ℤ pos s))) (filter-append (taken f) ws vs) ∙ map-append (λ w. Advance (steps w *ℤ pos s)) (filter (taken f) ws) (filter (taken f) vs)
 
 declined_append : (f : ℕ) (ws vs : List ℕ) → declined f (ws ++ vs) ≡ declined f ws || declined f vs
-declined_append f [] vs = refl
-declined_append f (w ∷ ws) vs = ap (λ b. is_powered (code w) && tripped f || b) (declined_append f ws vs) ∙ by (is_powered (code w) && tripped f) (declined f ws) (declined f vs)
-  where
-    by : (x y z : Bool) → x || (y || z) ≡ (x || y) || z
-    by true y z = refl
-    by false y z = refl
+declined_append f ws vs = list_any-append (λ w. is_powered (code w) && tripped f) ws vs
 
 -- a tripped coil takes no word
 pub none_tripped : (f : ℕ) (ws : List ℕ) → tripped f ≡ true → steps_taken f ws ≡ pos 0
@@ -123,7 +113,7 @@ none_tripped f (w ∷ ws) t = ap (λ b. cond b (steps w) (pos 0) +ℤ steps_take
 
 pub no_calls_tripped : (f s : ℕ) (ws : List ℕ) → tripped f ≡ true → advances f s ws ≡ []
 no_calls_tripped f s [] t = refl
-no_calls_tripped f s (w ∷ ws) t = ap (λ b. cond b (Advance (steps w *ℤ pos s) ∷ advances f s ws) (advances f s ws)) (not_taken_tripped f w t) ∙ no_calls_tripped f s ws t
+no_calls_tripped f s (w ∷ ws) t = ap (λ b. map (λ v. Advance (steps v *ℤ pos s)) (cond b (w ∷ filter (taken f) ws) (filter (taken f) ws))) (not_taken_tripped f w t) ∙ no_calls_tripped f s ws t
 
 once_more : (z : ℤ) (s : ℕ) → z *ℤ pos (suc s) ≡ z *ℤ pos s +ℤ z
 once_more z s = omega (arith, ints)
@@ -181,7 +171,7 @@ ended_well : (f : ℕ) (ws : List ℕ) (z : ℤ) → Ok z ≡ taking f ws → (d
 ended_well f ws z r = by (declined f ws) (steps_taken f ws) r
   where
     by : (b : Bool) (x : ℤ) → Ok z ≡ cond b (Err (fault.Coil (Tripped f))) (Ok x) → (b ≡ false) × (z ≡ x)
-    by true x e = let y : ◌≡◌ {A = ℕ} 0 1 = cc in absurd (omega arith)
+    by true x e = cc
     by false x e = (refl, cc)
 
 ended_ill : (f : ℕ) (ws : List ℕ) (t : AxisFault) → Err t ≡ taking f ws → (declined f ws ≡ true) × (t ≡ fault.Coil (Tripped f))
@@ -189,10 +179,10 @@ ended_ill f ws t r = by (declined f ws) (steps_taken f ws) r
   where
     by : (b : Bool) (x : ℤ) → Err t ≡ cond b (Err (fault.Coil (Tripped f))) (Ok x) → (b ≡ true) × (t ≡ fault.Coil (Tripped f))
     by true x e = (refl, cc)
-    by false x e = let y : ◌≡◌ {A = ℕ} 0 1 = cc in absurd (omega arith)
+    by false x e = cc
 
 only_tripped : (f : ℕ) (ws : List ℕ) → declined f ws ≡ true → tripped f ≡ true
-only_tripped f [] e = let y : ◌≡◌ {A = ℕ} 0 1 = ap (λ t. cond t 1 0) e in absurd (omega arith)
+only_tripped f [] e = cc
 only_tripped f (w ∷ ws) e = by (is_powered (code w)) (tripped f) (declined f ws) e (only_tripped f ws)
   where
     by : (a b c : Bool) → a && b || c ≡ true → (c ≡ true → b ≡ true) → b ≡ true
@@ -203,16 +193,8 @@ only_tripped f (w ∷ ws) e = by (is_powered (code w)) (tripped f) (declined f w
 -- a decline among the words declines them all
 declined_there : (f : ℕ) (ws : List ℕ) (n : ℕ) → n < length ws → declined f (get_or ws n 0 ∷ []) ≡ true → declined f ws ≡ true
 declined_there f [] n h e = absurd (omega arith)
-declined_there f (w ∷ ws) zero h e = by (is_powered (code w) && tripped f) (declined f ws) e
-  where
-    by : (a b : Bool) → a || false ≡ true → a || b ≡ true
-    by true b h = refl
-    by false b h = let y : ◌≡◌ {A = ℕ} 0 1 = ap (λ t. cond t 1 0) h in absurd (omega arith)
-declined_there f (w ∷ ws) (suc n) h e = by (is_powered (code w) && tripped f) (declined f ws) (declined_there f ws n (omega arith) e)
-  where
-    by : (a b : Bool) → b ≡ true → a || b ≡ true
-    by true b h = refl
-    by false b h = h
+declined_there f (w ∷ ws) zero h e = or_left _ _ (sym (or-false (is_powered (code w) && tripped f)) ∙ e)
+declined_there f (w ∷ ws) (suc n) h e = or_right _ _ (declined_there f ws n (omega arith) e)
 
 -- of a tripped coil the sum of what was taken is 0, so that it may stand for the sum after a decline
 pub sum_taken : (f : ℕ) (ws : List ℕ) → result_unwrap_or (taking f ws) (pos 0) ≡ steps_taken f ws
@@ -237,7 +219,7 @@ ended P f ws r e is same cases = by (declined f ws) e (same ∙ ap is_ok is) (su
     by : (b : Bool) (e : Result (Unit {0}) AxisFault) → is_ok e ≡ is_ok (cond b (Err (fault.Coil (Tripped f))) (Ok (steps_taken f ws))) → MatchResult (cond b (Err (fault.Coil (Tripped f))) (Ok (steps_taken f ws))) P (λ t. e ≡ Err t) → e ≡ cond b (Err (fault.Coil (Tripped f))) (Ok tt)
     by true e same cases = cases
     by false (Ok u) same cases = refl
-    by false (Err t) same cases = let y : ◌≡◌ {A = ℕ} 0 1 = ap (λ b. cond b 1 0) same in absurd (omega arith)
+    by false (Err t) same cases = cc
 
 pub word_there : (b : List ℕ) (n : ℕ) → n < 4 → get_or (words b) n 0 ≡ word b n
 word_there b zero h = refl

@@ -1,5 +1,5 @@
 -- One cycle of step words: which words are taken, and what they make of axis, coil and answer. Assumes nothing.
-use Rattle.std.specs.Prelude.{◌≡◌, ℕ, ◌/◌, ◌%◌, ◌^◌, Bool, false, cond, not, ◌&&◌, ◌||◌, List, [], ◌∷◌, map, ℤ, pos, ◌+ℤ◌, ◌*ℤ◌, Ok, Err, Result}
+use Rattle.std.specs.Prelude.{◌≡◌, ℕ, ◌/◌, ◌%◌, ◌^◌, Bool, cond, not, ◌&&◌, List, [], ◌∷◌, map, ℤ, pos, ◌+ℤ◌, ◌*ℤ◌, Ok, Err, Result}
 use Rattle.axis.specs.Kinds.{Kind, Outcome, Seen}
 use Rattle.axis.specs.Levels.{is_powered}
 use Rattle.axis.specs.declared.AxisFault.{AxisFault}
@@ -14,6 +14,7 @@ use Rattle.coil.specs.declared.CoilCall.{CoilCall}
 use Rattle.coil.specs.declared.CoilCall.TheVariants.{Advance}
 use Rattle.coil.specs.declared.CoilFault.TheVariants.{Tripped}
 use Rattle.coil.specs.declared.CoilId.{CoilId}
+use Rattle.std.specs.List.{filter, list_any}
 use Rattle.step_axis.specs.Words.{scale, code_number, steps, code, counted, last_word, config_from, first_config}
 use Rattle.step_axis.specs.declared.config.StepConfig.{StepConfig}
 use Rattle.step_axis.specs.declared.StepAxis.{StepAxis}
@@ -29,21 +30,22 @@ steps_taken flags (w ∷ ws) = cond (taken flags w) (steps w) (pos 0) +ℤ steps
 
 -- the advances that they make, in microsteps
 abbrev pub advances : ℕ → ℕ → List ℕ → List CoilCall
-advances flags s [] = []
-advances flags s (w ∷ ws) = cond (taken flags w) (Advance (steps w *ℤ pos s) ∷ advances flags s ws) (advances flags s ws)
+advances flags s ws = map (λ w. Advance (steps w *ℤ pos s)) (filter (taken flags) ws)
 
 -- the coil declines one of these words
 abbrev pub declined : ℕ → List ℕ → Bool
-declined flags [] = false
-declined flags (w ∷ ws) = is_powered (code w) && tripped flags || declined flags ws
+declined flags ws = list_any (λ w. is_powered (code w) && tripped flags) ws
 
--- how the taking ends: with the coil's fault, or well
+-- how the taking ends: with the coil's fault, or well with x
+abbrev pub ending_with : {X : Type 0} → X → ℕ → List ℕ → Result X AxisFault
+ending_with x flags ws = cond (declined flags ws) (Err (fault.Coil (Tripped flags))) (Ok x)
+
 abbrev pub ending : ℕ → List ℕ → Result (Unit {0}) AxisFault
-ending flags ws = cond (declined flags ws) (Err (fault.Coil (Tripped flags))) (Ok tt)
+ending = ending_with tt
 
--- the same with the signed sum of the steps that were taken, where it ends well
+-- the same with the signed sum of the steps that were taken
 abbrev pub taking : ℕ → List ℕ → Result ℤ AxisFault
-taking flags ws = cond (declined flags ws) (Err (fault.Coil (Tripped flags))) (Ok (steps_taken flags ws))
+taking flags ws = ending_with (steps_taken flags ws) flags ws
 
 -- the code in force: the last counted word's, or none after a decline
 abbrev pub code_after : {X : Type 0} → Result X AxisFault → ℕ → Current

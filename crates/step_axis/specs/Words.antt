@@ -2,6 +2,7 @@
 use Rattle.std.specs.Prelude.{ℕ, zero, suc, ◌+◌, ◌-◌, ◌*◌, ◌/◌, ◌%◌, ◌^◌, cond, List, [], ◌∷◌, take, ℤ, pos, negsuc, neg_ℤ, Some, None, Option, ◌==◌, slice_index}
 use Rattle.axis.specs.declared.currents.Current.{Current}
 use Rattle.axis.specs.declared.currents.Current.TheVariants.{Off, Holding, Nominal, Maximum}
+use Rattle.std.specs.Option.{option_map}
 use Rattle.step_axis.specs.declared.config.Resolution.{Resolution}
 use Rattle.step_axis.specs.declared.config.Resolution.TheVariants.{Five, Six, Seven, Eight}
 use Rattle.step_axis.specs.declared.config.StepConfig.{StepConfig}
@@ -38,12 +39,8 @@ resolution_field (suc zero) = Six
 resolution_field (suc (suc zero)) = Seven
 resolution_field (suc (suc (suc n))) = Eight
 
-abbrev pub with_resolution : Option WordCount → Resolution → Option StepConfig
-with_resolution None r = None
-with_resolution (Some w) r = Some (record { words = w; resolution = r })
-
 abbrev pub config_from : ℤ → Option StepConfig
-config_from (pos n) = cond (n == 2 ^ 11 + field n 3 2 * 2 ^ 3 + field n 5 2 * 2 ^ 5) (with_resolution (count_field (field n 3 2)) (resolution_field (field n 5 2))) None
+config_from (pos n) = cond (n == 2 ^ 11 + field n 3 2 * 2 ^ 3 + field n 5 2 * 2 ^ 5) (option_map (λ w. record { words = w; resolution = resolution_field (field n 5 2) }) (count_field (field n 3 2))) None
 config_from (negsuc n) = None
 
 -- what the register means at first, at 0x0800

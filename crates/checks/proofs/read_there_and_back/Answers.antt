@@ -14,7 +14,7 @@ returns c stands =
     let there : c.in_ok-send.field-0 ≡ answer_to 0x8200 0 configured = given c.in_ok-send.was c.send.ensures.answer (ap (answer_to 0x8200 0) stands) in
     let again : c.in_ok-send_times.field-0 ≡ last_answer 8 0xA040 0 (sent 0x8200 0 configured) = given c.in_ok-send_times.was c.send_times.ensures.answer (ap (last_answer 8 0xA040 0) far) in
     ok_four
-    (reading_given c.reading.ensures c.in_ok-far.was c.count.ensures (ap (λ s. s.one.own.count) far))
+    (reading_given c.reading.ensures c.in_ok-far.was c.count.ensures (ap (λ s. s.first.own.count) far))
     (reading_of c.reading-2.ensures (c.position-there.ensures ∙ ap (position_in First) there))
-    (reading_given c.reading-3.ensures c.in_ok-count.was c.count-2.ensures (ap (λ s. s.one.own.count) back))
+    (reading_given c.reading-3.ensures c.in_ok-count.was c.count-2.ensures (ap (λ s. s.first.own.count) back))
     (reading_of c.reading-4.ensures (c.position-back.ensures ∙ ap (position_in First) again))
