@@ -5,7 +5,7 @@ ghost use Rattle.axis.specs.Levels.{levels, no_levels, with_level, chosen, is_po
 use coil::Points;
 
 // Which current a motor chooses, with the number of its code; off is no power. It is no Option of a setting, since
-// each of the four codes has a number by the rules.
+// a match would then have to give each of the four its number.
 #[derive(Clone, Copy, PartialEq, Eq, Debug)]
 pub enum Current {
     Off = 0,
@@ -15,14 +15,14 @@ pub enum Current {
 }
 
 // One of a motor's three current settings.
-#[derive(Clone, Copy)]
+#[derive(Clone, Copy, PartialEq, Eq, Debug)]
 pub enum CurrentSetting {
     Holding,
     Nominal,
     Maximum,
 }
 
-#[derive(Clone, Copy)]
+#[derive(Clone, Copy, PartialEq, Eq, Debug)]
 pub struct Currents {
     pub holding: Points,
     pub nominal: Points,
@@ -33,10 +33,7 @@ impl Current {
     pub fn is_powered(self) -> bool
         ensures { result ≡ is_powered self }
     {
-        match self {
-            Current::Off => false,
-            Current::Holding | Current::Nominal | Current::Maximum => true,
-        }
+        self != Current::Off
     }
 }
 

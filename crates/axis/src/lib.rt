@@ -21,6 +21,7 @@ pub enum AxisFault {
     Coil(CoilFault),
 }
 
+// By hand, since clauses say what a `?` makes of a fault, and a derived impl has no contract.
 impl From<CoilFault> for AxisFault {
     ghost from_gives = { λ fault r. r ≡ Coil fault };
 

@@ -21,6 +21,7 @@ impl Levels {
     }
 }
 
+// Quarters are told by number, since a turn of the wave is a layout of counts.
 fn levels_of(count: u32) -> Levels
     ensures { result ≡ levels_at count }
 {

@@ -12,14 +12,14 @@ pub(crate) type Prepared = Module<Preparation, StepAxis, PulseDriver>;
 
 pub(crate) type Spare = Module<Running, StepAxis, PulseDriver>;
 
-// A module in preparation over coils at these counts, which the driver takes one by one too.
+// A module in preparation over coils at these counts, which are read by place as the driver reads them.
 pub(crate) fn prepare(first: u32, second: u32) -> Prepared
     ensures { bench result.inner ≡ fresh first second }
 {
     Module::new(PulseDriver::new(first, second))
 }
 
-// A word for motor 1 and a word for motor 2.
+// A word for motor 1 and a word for motor 2; no PerCoil, so that a send reads its words by place.
 #[derive(Clone, Copy)]
 pub(crate) struct Words(pub(crate) u16, pub(crate) u16);
 

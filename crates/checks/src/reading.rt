@@ -1,12 +1,11 @@
 // What a check reads, beside what a good module reads.
 ghost use Rattle.std.specs.Prelude.{◌≡◌, ◌==◌};
-ghost use Rattle.coil.specs.Numbers.{number as number_of};
 
 use coil::CoilId;
 use std::fmt;
 
 // What was sent before a reading.
-#[derive(Clone, Copy)]
+#[derive(Clone, Copy, PartialEq, Eq, Debug)]
 pub enum Sent {
     FullTurn,
     NoCurrent,
@@ -42,7 +41,7 @@ impl fmt::Display for Sent {
 }
 
 // What is read of a motor.
-#[derive(Clone, Copy)]
+#[derive(Clone, Copy, PartialEq, Eq, Debug)]
 pub enum Quantity {
     Count,
     Position,
@@ -75,7 +74,7 @@ impl fmt::Display for Quantity {
 }
 
 // One reading of a motor.
-#[derive(Clone, Copy)]
+#[derive(Clone, Copy, PartialEq, Eq, Debug)]
 pub struct Reading {
     pub sent: Sent,
     pub motor: CoilId,
@@ -108,16 +107,6 @@ impl Reading {
     }
 }
 
-// A motor's number.
-fn number(motor: CoilId) -> u8
-    ensures { result ≡ number_of motor }
-{
-    match motor {
-        CoilId::First => 1,
-        CoilId::Second => 2,
-    }
-}
-
 impl fmt::Display for Reading {
     fn fmt<W: fmt::Write>(&self, f: &mut fmt::Formatter<W>) -> fmt::Result {
         let Reading {
@@ -127,7 +116,7 @@ impl fmt::Display for Reading {
             read,
             good,
         } = *self;
-        let motor = number(motor);
+        let motor = motor as u8;
         let verdict = if self.is_good() { "good" } else { "bad" };
         write!(
             f,

@@ -6,7 +6,7 @@ use crate::error::CheckError;
 use crate::reading::Reading;
 use std::fmt;
 
-#[derive(Clone, Copy)]
+#[derive(Clone, Copy, PartialEq, Eq, Debug)]
 pub struct Summary {
     pub readings: usize,
     pub good: usize,

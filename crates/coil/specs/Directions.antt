@@ -1,5 +1,5 @@
--- The level of the direction line. Assumes nothing.
-use Rattle.std.specs.Prelude.{ℕ}
+-- The two ways of turning, the way of a signed number, and the level of the direction line. Assumes nothing.
+use Rattle.std.specs.Prelude.{ℕ, ℤ, pos, negsuc}
 use Rattle.coil.specs.declared.direction.Direction.{Direction}
 use Rattle.coil.specs.declared.direction.Direction.TheVariants.{Forward, Backward}
 
@@ -7,3 +7,8 @@ use Rattle.coil.specs.declared.direction.Direction.TheVariants.{Forward, Backwar
 abbrev pub level : Direction → ℕ
 level Forward = 0
 level Backward = 1
+
+-- backward for a negative number, else forward
+abbrev pub way_of : ℤ → Direction
+way_of (pos n) = Forward
+way_of (negsuc n) = Backward

@@ -47,7 +47,7 @@ pub enum CoilFault {
 }
 
 // A call that can change a coil.
-#[derive(Clone, Copy)]
+#[derive(Clone, Copy, PartialEq, Eq, Debug)]
 pub enum CoilCall {
     Advance(i32),
     Feed(u8),
@@ -56,7 +56,7 @@ pub enum CoilCall {
 }
 
 // A call of a driver: which coil, and what is called of it.
-#[derive(Clone, Copy)]
+#[derive(Clone, Copy, PartialEq, Eq, Debug)]
 pub struct DriverCall {
     pub coil: CoilId,
     pub call: CoilCall,

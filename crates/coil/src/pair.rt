@@ -84,7 +84,8 @@ pub struct CoilPair {
 }
 
 impl CoilPair {
-    // Two coils at these counts, without current and without flags.
+    // Two coils at these counts, without current and without flags. The counts are no PerCoil, here and in the drivers
+    // over a pair, since a call reads by place.
     pub fn new(first: u32, second: u32) -> CoilPair
         ensures { coils_of result ≡ new_coils first second }
     {

@@ -7,23 +7,18 @@ use Rattle.coil.specs.Meaning.{Coils}
 use Rattle.coil.specs.declared.CoilCall.{CoilCall}
 use Rattle.coil.specs.declared.CoilCall.TheVariants.{Advance, Feed, Note, Clear}
 use Rattle.coil.specs.declared.CoilId.{CoilId}
-use Rattle.coil.specs.declared.direction.Direction.{Direction}
-use Rattle.coil.specs.declared.direction.Direction.TheVariants.{Forward, Backward}
+use Rattle.coil.specs.Directions.{way_of}
+use Rattle.coil.specs.declared.direction.Direction.TheVariants.{Forward}
 use Rattle.coil.specs.declared.per_coil.PerCoil.{PerCoil}
 use Rattle.drivers.specs.declared.pulse.PulseDriver.{PulseDriver}
 use Rattle.drivers.specs.declared.pulse.Pulses.{Pulses}
-
--- backward for negative steps, else forward
-abbrev pub heading : ℤ → Direction
-heading (pos n) = Forward
-heading (negsuc n) = Backward
 
 -- before the first advance
 abbrev pub no_pulses : Pulses
 no_pulses = record { direction = Forward; number = 0 }
 
 abbrev pub pulses_for : ℤ → Pulses
-pulses_for steps = record { direction = heading steps; number = unsigned_abs steps }
+pulses_for steps = record { direction = way_of steps; number = unsigned_abs steps }
 
 -- the pulses of both coils after an accepted call: only an advance makes new ones, and those of its coil alone
 abbrev pub pulses_after : PerCoil Pulses → CoilId → CoilCall → PerCoil Pulses

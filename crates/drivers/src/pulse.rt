@@ -27,13 +27,8 @@ impl From<Microsteps> for Pulses {
     ghost from_gives = { λ steps pulses. pulses ≡ pulses_for steps.value };
 
     fn from(steps: Microsteps) -> Pulses {
-        let direction = if steps.value < 0 {
-            Direction::Backward
-        } else {
-            Direction::Forward
-        };
         Pulses {
-            direction,
+            direction: Direction::from(i64::from(steps.value)),
             number: steps.value.unsigned_abs(),
         }
     }
@@ -69,6 +64,8 @@ impl PulseDriver {
     }
 }
 
+// Five calls are passed on as they are: one impl for all drivers that hold a pair would not fit this one, whose
+// advance and `did` are its own.
 impl CoilDriver for PulseDriver {
     ghost meaning = { pulse_meaning };
 

@@ -13,13 +13,14 @@ use refusal::Refusal;
 use registers::Model;
 
 // A setting of a register.
-#[derive(Clone, Copy)]
+#[derive(Clone, Copy, PartialEq, Eq, Debug)]
 pub struct SetRegister {
     pub register: u16,
     pub value: i32,
 }
 
-// A call of a running module. A cycle has its record and its answer buffer, of any lengths.
+// A call of a running module. A cycle has its record and its answer buffer, of any lengths. Motors and flags are plain
+// numbers, as in the calls of a module.
 #[derive(Drop)]
 pub enum Call {
     Setting(SetRegister),

@@ -45,6 +45,7 @@ impl<A: Model, D: CoilDriver> Inner<A, D> {
         ensures answer { Filled (rules A.Axis.kind A.Model.lines) D.CoilDriver.meaning self.old orders.now answer.old answer.new result }
     {
         let (first, second) = halves(orders).ok_or(Refusal::RecordLength)?;
+        // two steps in place: a function that lends both halves gets no proof of what the buffer ends as
         let Some((first_answer, rest)) = answer.split_first_chunk_mut::<8>() else {
             return Err(Refusal::AnswerLength);
         };

@@ -28,18 +28,21 @@ use steps::place;
 
 // The stage of a module is part of its type, so that a program that runs a cycle in preparation,
 // or starts a module twice, is not built.
-pub trait ModuleStage {
+pub trait ModuleStage: Copy {
     ghost stage: { Stage };
 
     fn stage() -> Stage
         ensures { result ≡ stage };
 }
 
+#[derive(Clone, Copy)]
 pub struct Preparation;
 
+#[derive(Clone, Copy)]
 pub struct Running;
 
 // The last of a module: it can be read, and gives its driver back.
+#[derive(Clone, Copy)]
 pub struct Closed;
 
 impl ModuleStage for Preparation {
@@ -112,7 +115,6 @@ impl<S: ModuleStage, A: Model, D: CoilDriver> Module<S, A, D> {
     }
 }
 
-// Motors and flags are plain numbers here: they come from outside, and a wrong one is refused by its number.
 impl<S, A: Model, D: CoilDriver> Module<S, A, D> {
     fn at_stage<T>(self) -> Module<T, A, D>
         ensures { result.inner ≡ self.inner }
@@ -124,7 +126,8 @@ impl<S, A: Model, D: CoilDriver> Module<S, A, D> {
         }
     }
 
-    // The latest fault of a motor, if there was one.
+    // The latest fault of a motor, if there was one. Motors are plain numbers in the calls of a module, and flags too:
+    // they come from outside, and a wrong one is refused by its number.
     pub fn latest_fault(&self, motor: u8) -> Result<Option<Fault>, Refusal>
         ensures { result ≡ of_motor motor (λ i. (share A.Axis.kind D.CoilDriver.meaning self.now.inner i).fault) }
     {
@@ -181,7 +184,8 @@ impl<S, A: Model, D: CoilDriver> Module<S, A, D> {
 }
 
 impl<A: Model, D: CoilDriver> Module<Running, A, D> {
-    // One cycle: bytes 0 to 7 of record and answer are motor 1's, bytes 8 to 15 motor 2's.
+    // One cycle: bytes 0 to 7 of record and answer are motor 1's, bytes 8 to 15 motor 2's. Any lengths come from outside,
+    // and others than 16 are refused by their numbers.
     pub fn cycle(&mut self, orders: &[u8], answer: &mut [u8]) -> Result<(), Refusal>
         ensures effect { Called (rules A.Axis.kind A.Model.lines) D.CoilDriver.meaning D.CoilDriver.did stages.Running (cycle orders.now (length answer.old)) self.old.inner self.new.inner result }
         ensures answer { Filled (rules A.Axis.kind A.Model.lines) D.CoilDriver.meaning self.old.inner orders.now answer.old answer.new result }

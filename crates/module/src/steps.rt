@@ -64,7 +64,8 @@ impl<A: Axis, D: CoilDriver> Inner<A, D> {
         self.motors[place(coil)].cycle(config, &mut self.driver, coil, cycle, orders, answer);
     }
 
-    // Both motors move, motor 1 first, and the cycle gets its number.
+    // Both motors move, motor 1 first, and the cycle gets its number. The halves are no PerCoil: of an array behind a
+    // reference in a struct the proof knows no length.
     pub(crate) fn move_motors(
         &mut self,
         first: &[u8; 8],

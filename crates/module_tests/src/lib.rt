@@ -21,7 +21,7 @@ mod tests {
     }
 
     // One cycle with a word for each motor; gives the answer.
-    // The checks of a spare keep such a function for themselves, and these tests stand beside them, not on them.
+    // The checks of a spare have one too; with theirs these tests would be proved again at each change of check or law.
     fn send(module: &mut Started, first: u16, second: u16) -> Result<[u8; 16], Refusal> {
         let [a, b] = first.to_le_bytes();
         let [c, d] = second.to_le_bytes();

@@ -1,5 +1,6 @@
 -- The rule for the next speed of a motor that ramps. Assumes nothing.
 use Rattle.std.specs.Prelude.{ℕ, zero, suc, ◌+◌, ◌-◌, min, max, Bool, cond, ◌||◌, ℤ, pos, neg_ℤ, ◌==◌, int_le, int_lt}
+use Rattle.coil.specs.Directions.{way_of}
 use Rattle.coil.specs.declared.direction.Direction.{Direction}
 use Rattle.coil.specs.declared.direction.Direction.TheVariants.{Forward, Backward}
 use Rattle.profile.specs.declared.Limits.{Limits}
@@ -46,7 +47,7 @@ next_size l v d = cond (forbids_motion l) 0 (greatest_above (slowest l v) l.dece
 
 -- the way of a motion: its own, or from standstill the target's
 abbrev pub heading : Speed → ℤ → Direction
-heading s d = cond (s.size == 0) (cond (int_lt d (pos 0)) Backward Forward) s.direction
+heading s d = cond (s.size == 0) (way_of d) s.direction
 
 -- the next speed of going to a target that is d microsteps off
 abbrev pub toward : Limits → Speed → ℤ → Speed

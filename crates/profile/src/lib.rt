@@ -46,12 +46,9 @@ impl Speed {
     pub fn steps(self) -> Microsteps
         ensures { result.value ≡ signed self }
     {
-        let size = i32::from(self.size);
-        let value = match self.direction {
-            Direction::Forward => size,
-            Direction::Backward => -size,
-        };
-        Microsteps { value }
+        Microsteps {
+            value: along(self.direction, i64::from(self.size)) as i32,
+        }
     }
 
     // The way that a move goes: on as it goes, and from standstill toward the target.
@@ -60,10 +57,8 @@ impl Speed {
     {
         if self.size > 0 {
             self.direction
-        } else if distance < 0 {
-            Direction::Backward
         } else {
-            Direction::Forward
+            Direction::from(distance)
         }
     }
 }

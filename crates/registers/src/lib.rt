@@ -16,20 +16,20 @@ pub enum Stage {
 }
 
 // The stages at which a register is open.
-#[derive(Clone, Copy)]
+#[derive(Clone, Copy, PartialEq, Eq, Debug)]
 pub enum Open {
     Preparation,
     BothStages,
 }
 
 // What a register sets: the module-wide configuration, or one of a motor's currents.
-#[derive(Clone, Copy)]
+#[derive(Clone, Copy, PartialEq, Eq, Debug)]
 pub enum Setting {
     Configuration,
     Current(CoilId, CurrentSetting),
 }
 
-#[derive(Clone, Copy)]
+#[derive(Clone, Copy, PartialEq, Eq, Debug)]
 pub struct Register {
     pub setting: Setting,
     pub opened: Open,

@@ -12,13 +12,13 @@ pub enum WordCount {
     Four = 4,
 }
 
-// The resolution r of a step, which is 2^(8-r) microsteps.
+// The resolution r of a step, with the microsteps of a step, which are 2^(8-r).
 #[derive(Clone, Copy, PartialEq, Eq, Debug)]
 pub enum Resolution {
-    Five,
-    Six,
-    Seven,
-    Eight,
+    Five = 8,
+    Six = 4,
+    Seven = 2,
+    Eight = 1,
 }
 
 #[derive(Clone, Copy, PartialEq, Eq, Debug)]
@@ -43,20 +43,14 @@ impl Resolution {
         requires { (neg_ℤ (pos 8191) ≤ℤ steps) × (steps ≤ℤ pos 8191) }
         ensures { result.value ≡ steps *ℤ pos (scale self) }
     {
-        let steps = i32::from(steps);
-        // four products and no factor, so that each is bounded by a literal
-        let value = match self {
-            Resolution::Five => steps * 8,
-            Resolution::Six => steps * 4,
-            Resolution::Seven => steps * 2,
-            Resolution::Eight => steps,
-        };
-        Microsteps { value }
+        Microsteps {
+            value: i32::from(steps) * self as i32,
+        }
     }
 }
 
 // What a value of the configuration register means: bits 3 and 4 are the word count, bits 5 and 6 the resolution,
-// bit 11 is 1 and all others are 0.
+// bit 11 is 1 and all others are 0. It is a layout, and so its fields are read by numbers.
 impl TryFrom<i32> for StepConfig {
     type Error = OutOfRange;
 

@@ -22,7 +22,7 @@ pub struct StepAxis {
     current: Current,
 }
 
-// The signed steps and the current code of a word.
+// The signed steps and the current code of a word, a layout of bits.
 pub fn decode(word: u16) -> (i16, Current)
     ensures value { result ≡ (steps word, code word) }
     ensures least { neg_ℤ (pos 8191) ≤ℤ result.0 }
@@ -93,10 +93,7 @@ fn take_words<D: CoilDriver>(
 fn code_in_force(last: u16, taken: Result<i16, AxisFault>) -> Current
     ensures { result ≡ code_after taken last }
 {
-    match taken {
-        Ok(_) => decode(last).1,
-        Err(_) => Current::Off,
-    }
+    taken.map_or(Current::Off, |_| decode(last).1)
 }
 
 impl StepAxis {

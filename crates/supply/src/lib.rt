@@ -25,6 +25,7 @@ impl Supply {
         ensures same { self.new ≡ self.old }
     {
         let left = SUPPLY_POINTS - u16::from(first);
+        // the smaller of a byte and another number is a byte, so the cast keeps all
         (first, u16::from(second).min(left) as u8)
     }
 }
