@@ -1,5 +1,6 @@
 -- One value for each of the two coils. Assumes nothing.
 use Rattle.std.specs.Prelude.{◌≡◌, refl}
+use Rattle.std.proofs.Common.{ap, ◌∙◌}
 use Rattle.coil.specs.declared.CoilId.{CoilId}
 use Rattle.coil.specs.declared.CoilId.TheVariants.{First, Second}
 use Rattle.coil.specs.declared.per_coil.PerCoil.{PerCoil}
@@ -23,7 +24,7 @@ at_both f First = refl
 at_both f Second = refl
 
 pub same_both : {T : Type 0} (f g : CoilId → T) → ((i : CoilId) → f i ≡ g i) → both f ≡ both g
-same_both f g same = cc (same First, same Second)
+same_both f g same = ap (λ x. record { first = x; second = f Second }) (same First) ∙ ap (λ x. record { first = g First; second = x }) (same Second)
 
 pub put_same : {T : Type 0} (c : PerCoil T) (i : CoilId) → put c i (at c i) ≡ c
 put_same c First = refl
