@@ -18,7 +18,7 @@ use Rattle.module.specs.Effects.{Answer, Asked, Deed, acknowledgement, acknowled
 use Rattle.module.specs.Share.{Rules, Share, motor_at, powered, share, share_of, wanted}
 use Rattle.module.specs.declared.inner.Inner.{Inner}
 use Rattle.refusal.specs.declared.Refusal.{Refusal}
-use Rattle.refusal.specs.declared.Refusal.TheVariants.{AnswerLength, Closed, RecordLength, UnknownFlags, UnknownMotor, UnknownRegister}
+use Rattle.refusal.specs.declared.Refusal.TheVariants.{AnswerLength, Closed, RecordLength, UnknownFlags, UnknownMotor}
 use Rattle.registers.specs.Tables.{is_open, look_up}
 use Rattle.registers.specs.declared.Register.{Register}
 use Rattle.registers.specs.declared.Setting.{Setting}
@@ -225,10 +225,6 @@ called_set k meaning did stage n v x y r o e num motors driver refused = record 
   driver = driver;
   refused = refused;
 }
-
-pub set_unknown : {C A D : Type 0} (k : Rules C A) (meaning : D → Coils) (did : Did D) (stage : Stage) (n : ℕ) (v : ℤ) (x : Inner A D C) (r : Answer) → r ≡ Err UnknownRegister → look_up k.lines n ≡ None → Called k meaning did stage (setting n v) x x r
-unfolding set_lived
-set_unknown k meaning did stage n v x r num e = called_set k meaning did stage n v x x r None e num (λ i. refl) refl (λ _. refl)
 
 closed : {C A : Type 0} (k : Kind C A) (stage : Stage) (r : Register) (i : CoilId) (h : Share C A) (v : ℤ) → is_open r.opened stage ≡ false → h ≡ set_lived k stage (Some r) i h v
 unfolding set_lived

@@ -18,15 +18,11 @@ use Rattle.module.specs.declared.motor.Fault.{Fault}
 use Rattle.module.specs.declared.motor.Motor.{Motor}
 
 pub same_share : {C A : Type 0} (h g : Share C A) → h.config ≡ g.config → h.axis ≡ g.axis → h.currents ≡ g.currents → h.fault ≡ g.fault → h.cycles ≡ g.cycles → h.count ≡ g.count → h.flags ≡ g.flags → h ≡ g
-same_share {C} {A} h g config axis currents fault cycles count flags =
-    let make : C → A → Levels → Option Fault → ℕ → ℕ → ℕ → Share C A = λ a b c d e f x. record { config = a; axis = b; currents = c; fault = d; cycles = e; count = f; flags = x } in
-    ap (λ z. make z h.axis h.currents h.fault h.cycles h.count h.flags) config
-    ∙ ap (λ z. make g.config z h.currents h.fault h.cycles h.count h.flags) axis
-    ∙ ap (λ z. make g.config g.axis z h.fault h.cycles h.count h.flags) currents
-    ∙ ap (λ z. make g.config g.axis g.currents z h.cycles h.count h.flags) fault
-    ∙ ap (λ z. make g.config g.axis g.currents g.fault z h.count h.flags) cycles
-    ∙ ap (λ z. make g.config g.axis g.currents g.fault g.cycles z h.flags) count
-    ∙ ap (λ z. make g.config g.axis g.currents g.fault g.cycles g.count z) flags
+same_share {C} {A} h g config axis currents fault cycles count flags = by config axis currents fault cycles count flags
+  where
+    by : {a a' : C} {b b' : A} {c c' : Levels} {d d' : Option Fault} {e e' f f' x x' : ℕ} → a ≡ a' → b ≡ b' → c ≡ c' → d ≡ d' → e ≡ e' → f ≡ f' → x ≡ x' →
+        ◌≡◌ {A = Share C A} (record { config = a; axis = b; currents = c; fault = d; cycles = e; count = f; flags = x }) (record { config = a'; axis = b'; currents = c'; fault = d'; cycles = e'; count = f'; flags = x' })
+    by p q r s t u v = cc
 
 -- the share after a turn, whose cycle has its number already
 abbrev turned_share : {C A : Type 0} → Kind C A → CoilId → Share C A → List ℕ → Share C A

@@ -15,7 +15,7 @@ use Rattle.coil.proofs.Chained.{chain_join}
 use Rattle.coil.proofs.Wraps.{modulo_onto}
 use Rattle.coil.specs.Chains.{Chain, Did, Tried, on}
 use Rattle.coil.specs.Coils.{at, at_put, put, put_put, put_same}
-use Rattle.coil.specs.Meaning.{Coil, Coils, advanced, answered, tripped, with_count}
+use Rattle.coil.specs.Meaning.{Coil, Coils, answered, tripped, with_count}
 use Rattle.coil.specs.Modulo.{modulo}
 use Rattle.coil.specs.declared.CoilCall.TheVariants.{Advance}
 use Rattle.coil.specs.declared.CoilFault.{CoilFault}
@@ -45,13 +45,6 @@ pub is_declined : (b : Bool) (f : ℕ) (r : Result (Unit {0}) CoilFault) (e : Co
 is_declined true f r e a h = refl
 is_declined false f r e a h = cc
 
-pub is_accepted : (b : Bool) (f : ℕ) (r : Result (Unit {0}) CoilFault) (u : Unit {0}) → r ≡ answered b f → r ≡ Ok u → b ≡ false
-is_accepted true f r u a h = cc
-is_accepted false f r u a h = refl
-
-pub is_taken : (f w : ℕ) → is_powered (code w) ≡ true → tripped f ≡ false → taken f w ≡ true
-is_taken f w p t = ap (λ b. b && not (tripped f)) p ∙ ap not t
-
 pub not_taken_off : (f w : ℕ) → is_powered (code w) ≡ false → taken f w ≡ false
 not_taken_off f w p = ap (λ b. b && not (tripped f)) p
 
@@ -70,22 +63,6 @@ pub took_not : {D : Type 0} (meaning : D → Coils) (did : Did D) (i : CoilId) (
     (at (meaning d) i).count < 2 ^ 32 → taken (at (meaning d) i).flags w ≡ false → Took meaning did i s (w ∷ []) d d
 took_not meaning did i s w d n e =
     took_nothing meaning did i s (w ∷ []) d n (ap (λ t. cond t (steps w) (pos 0) +ℤ pos 0) e) (ap (λ t. map (λ v. Advance (steps v *ℤ pos s)) (cond t (w ∷ []) [])) e)
-
--- a word that is taken
-pub took_one : {D : Type 0} (meaning : D → Coils) (did : Did D) (i : CoilId) (s w : ℕ) (d d' : D) →
-    is_powered (code w) ≡ true → tripped (at (meaning d) i).flags ≡ false →
-    meaning d' ≡ put (meaning d) i (advanced (at (meaning d) i) (steps w *ℤ pos s)) → Tried did (tripped (at (meaning d) i).flags) d (on i (Advance (steps w *ℤ pos s))) d' →
-    Took meaning did i s (w ∷ []) d d'
-took_one meaning did i s w d d' p f m c =
-    let f₀ : ℕ = (at (meaning d) i).flags in
-    let n : ℕ = (at (meaning d) i).count in
-    let t : taken f₀ w ≡ true = is_taken f₀ w p f in
-    let sum : steps_taken f₀ (w ∷ []) ≡ steps w = ap (λ b. cond b (steps w) (pos 0) +ℤ pos 0) t ∙ add_none (steps w) in
-    let calls : advances f₀ s (w ∷ []) ≡ Advance (steps w *ℤ pos s) ∷ [] = ap (λ b. map (λ v. Advance (steps v *ℤ pos s)) (cond b (w ∷ []) [])) t in
-    record {
-      coils = m ∙ ap (λ b. put (meaning d) i (with_count (at (meaning d) i) (cond b n (modulo (2 ^ 32) (pos n +ℤ steps w *ℤ pos s))))) f ∙ ap (λ z. put (meaning d) i (with_count (at (meaning d) i) (modulo (2 ^ 32) (pos n +ℤ z *ℤ pos s)))) (sym sum);
-      calls = subst (λ cs. Chain did d (map (on i) cs) d') (sym calls) (d', (subst (λ b. Tried did b d (on i (Advance (steps w *ℤ pos s))) d') f c, refl));
-    }
 
 -- a word that the coil declines
 pub took_declined : {D : Type 0} (meaning : D → Coils) (did : Did D) (i : CoilId) (s w : ℕ) (d d' : D) (call : DriverCall) →

@@ -2,7 +2,7 @@ use Rattle.std.proofs.Common.{◌≡◌, true, false, rules}
 use Rattle.axis.specs.Levels.{is_powered}
 use Rattle.coil.specs.Coils.{at}
 use Rattle.coil.specs.Meaning.{tripped}
-use Rattle.step_axis.proofs.Taking.{is_accepted, is_declined, not_taken_off, took_declined, took_not, took_one}
+use Rattle.step_axis.proofs.Taking.{is_declined, not_taken_off, took_declined, took_not}
 use Rattle.step_axis.specs.Words.{code}
 use Rattle.step_axis.proofs.take_word.Goals as goal
 
@@ -22,15 +22,5 @@ returns-then-not-is_powered g c =
     let p : is_powered (code c.args.word) ≡ false = search rules in
     record {
       took = took_not g.D.CoilDriver.meaning g.D.CoilDriver.did c.args.coil _ c.args.word c.args.driver.now (g.met.D.CoilDriver.sound c.args.driver.now c.args.coil).count (not_taken_off flags c.args.word p);
-      taking = search rules;
-    }
-
-pub returns : goal.returns
-returns g c =
-    let flags = (at (g.D.CoilDriver.meaning c.args.driver.now) c.args.coil).flags in
-    let f : tripped flags ≡ false = is_accepted (tripped flags) flags c.advance.result _ c.advance.ensures.answer c.in_ok-advance.was in
-    let p : is_powered (code c.args.word) ≡ true = search rules in
-    record {
-      took = took_one g.D.CoilDriver.meaning g.D.CoilDriver.did c.args.coil _ c.args.word c.args.driver.now c.advance.new.self p f (search rules) (search rules);
       taking = search rules;
     }

@@ -1,14 +1,9 @@
-use Rattle.std.proofs.Common.{◌≡◌, true, false, Some, None, w32, rules as std_rules}
-use Rattle.module.proofs.Calling.{set_closed, set_config, set_this_current, set_unknown}
+use Rattle.std.proofs.Common.{◌≡◌, true, false, Some, w32, rules as std_rules}
+use Rattle.module.proofs.Calling.{set_closed, set_config, set_this_current}
 use Rattle.module.specs.Share.{rules}
 use Rattle.registers.specs.Tables.{is_open, look_up}
 use Rattle.std.proofs.lemmas.Int.{to_z-of_z}
 use Rattle.module.proofs.inner.Inner.setting.Goals as goal
-
-pub returns-in_err-found : goal.returns-in_err-found
-returns-in_err-found g c =
-    let e : look_up g.A.Model.lines c.args.register ≡ None = search std_rules in
-    set_unknown (rules g.A.Axis.kind g.A.Model.lines) g.D.CoilDriver.meaning g.D.CoilDriver.did c.args.stage c.args.register c.args.value c.args.self.now c.from_residual.result (search std_rules) e
 
 pub returns-then-not-is_open : goal.returns-then-not-is_open
 returns-then-not-is_open g c =
