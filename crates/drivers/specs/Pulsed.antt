@@ -1,5 +1,5 @@
 -- What the pulse driver tells beside its meaning: the pulses of each coil's latest accepted advance. Assumes nothing.
-use Rattle.std.specs.Prelude.{◌≡◌, ℤ, pos, negsuc, unsigned_abs}
+use Rattle.std.specs.Prelude.{◌≡◌, ℤ, unsigned_abs}
 use Rattle.coil.specs.Chains.{Did}
 use Rattle.coil.specs.Coils.{put}
 use Rattle.coil.specs.Kept.{coils_of}

@@ -1,5 +1,5 @@
 -- The rule for the next speed of a motor that ramps. Assumes nothing.
-use Rattle.std.specs.Prelude.{ℕ, zero, suc, ◌+◌, ◌-◌, min, max, Bool, cond, ◌||◌, ℤ, pos, neg_ℤ, ◌==◌, int_le, int_lt}
+use Rattle.std.specs.Prelude.{ℕ, zero, suc, ◌+◌, ◌-◌, min, max, Bool, cond, ◌||◌, ℤ, pos, neg_ℤ, ◌==◌, int_le}
 use Rattle.coil.specs.Directions.{way_of}
 use Rattle.coil.specs.declared.direction.Direction.{Direction}
 use Rattle.coil.specs.declared.direction.Direction.TheVariants.{Forward, Backward}
