@@ -1,5 +1,5 @@
 -- Sums modulo n: to take the remainder on the way changes nothing, and the numbers' own wrapping sums are such sums.
-use Rattle.std.proofs.Common.{◌≡◌, ℕ, zero, suc, ◌+◌, ◌-◌, ◌*◌, ◌%◌, ◌^◌, ◌<◌, ◌≤◌, ℤ, pos, negsuc, ◌+ℤ◌, nat_abs, sym, refl, ap, ◌∙◌, arith, w8, w16, w32, w64, SFits, of_z}
+use Rattle.std.proofs.Common.{◌≡◌, ℕ, zero, suc, ◌+◌, ◌-◌, ◌*◌, ◌%◌, ◌^◌, ◌<◌, ◌≤◌, ℤ, pos, negsuc, ◌+ℤ◌, nat_abs, sym, refl, ap, ◌∙◌, add-zero, mod-eq_of_lt, arith, w8, w16, w32, w64, SFits, of_z}
 use mir.Syntax.{Width, w128}
 use mir.Val.{bits}
 use native.Mathlib.Nat.{mod-add-mod}
@@ -52,3 +52,8 @@ wrapping_modulo w m (pos a) f = refl
 wrapping_modulo w m (negsuc a) f =
     let le : suc a ≤ 2 ^ bits w = fits_below w a f in
     sym (modulo_is (2 ^ bits w) (pos m +ℤ negsuc a) 1 (m + (2 ^ bits w - suc a)) (omega arith) (omega (arith, ints)))
+
+-- a number below n with nothing added
+pub modulo_still : (n a : ℕ) (z : ℤ) → a < n → z ≡ pos 0 → modulo n (pos a +ℤ z) ≡ a
+unfolding modulo
+modulo_still n a z h e = ap (λ x. modulo n (pos a +ℤ x)) e ∙ ap (λ x. x % n) (add-zero a) ∙ mod-eq_of_lt h

@@ -1,6 +1,6 @@
 -- With step words a count is the first count plus the words taken.
-use Rattle.std.proofs.Common.{◌≡◌, ℕ, ◌^◌, ◌<◌, List, [], ◌∷◌, ℤ, pos, ◌+ℤ◌, ◌*ℤ◌, sym, ap, ◌∙◌, add-zero, mod-eq_of_lt, arith, lit<}
-use Rattle.coil.proofs.Wraps.{modulo_below, modulo_onto}
+use Rattle.std.proofs.Common.{◌≡◌, ◌^◌, ◌<◌, List, [], ◌∷◌, ℤ, pos, ◌+ℤ◌, ◌*ℤ◌, sym, refl, ap, ◌∙◌, arith, lit<}
+use Rattle.coil.proofs.Wraps.{modulo_below, modulo_onto, modulo_still}
 use Rattle.coil.specs.Modulo.{modulo}
 use Rattle.coil.specs.declared.CoilId.{CoilId}
 use Rattle.law.specs.Deeds.{ending, microsteps_taken}
@@ -13,16 +13,12 @@ use Rattle.step_axis.specs.Words.{counted, scale}
 use Rattle.step_axis.specs.declared.StepAxis.{StepAxis}
 use Rattle.step_axis.specs.declared.config.StepConfig.{StepConfig}
 
-at_rest : (n a : ℕ) → a < n → a ≡ modulo n (pos a +ℤ pos 0)
-unfolding modulo
-at_rest n a h = sym (mod-eq_of_lt h) ∙ ap (λ x. modulo n (pos x)) (sym (add-zero a))
-
 onward : (a b c : ℤ) → a +ℤ b +ℤ c ≡ a +ℤ (b +ℤ c)
 onward a b c = omega (arith, ints)
 
 pub counts : (i : CoilId) (h : Share StepConfig StepAxis) (ds : List Deed) → h.count < 2 ^ 32 →
     (ending (rules step_kind step_lines) i h ds).count ≡ modulo (2 ^ 32) (pos h.count +ℤ microsteps_taken h.config h.flags ds)
-counts i h [] b = at_rest (2 ^ 32) h.count b
+counts i h [] b = sym (modulo_still (2 ^ 32) h.count (pos 0) b refl)
 counts i h (sets stage n v ∷ ds) b = counts i (after (rules step_kind step_lines) i h (sets stage n v)) ds b
 counts i h (starts ∷ ds) b = counts i h ds b
 counts i h (moves orders ∷ ds) b =

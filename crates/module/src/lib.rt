@@ -4,7 +4,6 @@
 ghost use Rattle.std.specs.Prelude.{◌≡◌, length};
 ghost use Rattle.std.specs.Fn.{FnOnceReturnsAtMut};
 ghost use Rattle.coil.specs.Coils.{at};
-ghost use Rattle.coil.specs.declared.CoilId.TheVariants.{First, Second};
 ghost use Rattle.module.specs.Called.{Called, Filled, Made};
 ghost use Rattle.module.specs.Effects.{acknowledgement, cycle, of_motor, report, setting};
 ghost use Rattle.module.specs.Share.{rules, share, wanted};

@@ -1,5 +1,5 @@
 -- The words of a cycle, taken one after the other.
-use Rattle.std.proofs.Common.{◌≡◌, ℕ, zero, suc, ◌+◌, ◌*◌, ◌%◌, ◌^◌, ◌<◌, Bool, true, false, cond, not, ◌&&◌, ◌||◌, eqb, List, [], ◌∷◌, ◌++◌, map, length, get_or, ℤ, pos, ◌+ℤ◌, ◌*ℤ◌, neg_ℤ, ◌≤ℤ◌, Ok, Err, Result, sym, refl, ap, ◌∙◌, subst, add-zero, mod-eq_of_lt, arith, lit<}
+use Rattle.std.proofs.Common.{◌≡◌, ℕ, zero, suc, ◌+◌, ◌*◌, ◌^◌, ◌<◌, Bool, true, false, cond, not, ◌&&◌, ◌||◌, eqb, List, [], ◌∷◌, ◌++◌, map, length, get_or, ℤ, pos, ◌+ℤ◌, ◌*ℤ◌, neg_ℤ, ◌≤ℤ◌, Ok, Err, Result, sym, refl, ap, ◌∙◌, subst, arith, lit<}
 use Rattle.std.proofs.Math.Bool.{or-false}
 use Rattle.std.proofs.lemmas.Bool.{and_right, or_left, or_right}
 use Rattle.std.proofs.lemmas.List.Elements.{filter-append}
@@ -12,7 +12,7 @@ use Rattle.axis.specs.Levels.{is_powered}
 use Rattle.axis.specs.declared.AxisFault.{AxisFault}
 use Rattle.axis.specs.declared.AxisFault.TheVariants as fault
 use Rattle.coil.proofs.Chained.{chain_join}
-use Rattle.coil.proofs.Wraps.{modulo_onto}
+use Rattle.coil.proofs.Wraps.{modulo_onto, modulo_still}
 use Rattle.coil.specs.Chains.{Chain, Did, Tried, on}
 use Rattle.coil.specs.Coils.{at, at_put, put, put_put, put_same}
 use Rattle.coil.specs.Meaning.{Coil, Coils, answered, tripped, with_count}
@@ -27,13 +27,6 @@ use Rattle.step_axis.specs.Words.{code, field, steps, word, words}
 
 add_none : (z : ℤ) → z +ℤ pos 0 ≡ z
 add_none z = omega (arith, ints)
-
-small : (n a : ℕ) → a < n → modulo n (pos a +ℤ pos 0) ≡ a
-unfolding modulo
-small n a h = ap (λ x. x % n) (add-zero a) ∙ mod-eq_of_lt h
-
-modulo_small : (n a : ℕ) (z : ℤ) → a < n → z ≡ pos 0 → modulo n (pos a +ℤ z) ≡ a
-modulo_small n a z h e = ap (λ x. modulo n (pos a +ℤ x)) e ∙ small n a h
 
 times : (z : ℤ) (s : ℕ) → z ≡ pos 0 → z *ℤ pos s ≡ pos 0
 times z s e = ap (λ x. x *ℤ pos s) e ∙ none s
@@ -55,7 +48,7 @@ not_taken_tripped f w t = and_right (is_powered (code w)) (not (tripped f)) (ap 
 pub took_nothing : {D : Type 0} (meaning : D → Coils) (did : Did D) (i : CoilId) (s : ℕ) (ws : List ℕ) (d : D) →
     (at (meaning d) i).count < 2 ^ 32 → steps_taken (at (meaning d) i).flags ws ≡ pos 0 → advances (at (meaning d) i).flags s ws ≡ [] → Took meaning did i s ws d d
 took_nothing meaning did i s ws d n sum none = record {
-  coils = sym (put_same (meaning d) i) ∙ ap (λ c. put (meaning d) i (with_count (at (meaning d) i) c)) (sym (modulo_small (2 ^ 32) (at (meaning d) i).count (steps_taken (at (meaning d) i).flags ws *ℤ pos s) n (times (steps_taken (at (meaning d) i).flags ws) s sum)));
+  coils = sym (put_same (meaning d) i) ∙ ap (λ c. put (meaning d) i (with_count (at (meaning d) i) c)) (sym (modulo_still (2 ^ 32) (at (meaning d) i).count (steps_taken (at (meaning d) i).flags ws *ℤ pos s) n (times (steps_taken (at (meaning d) i).flags ws) s sum)));
   calls = subst (λ cs. Chain did d (map (on i) cs) d) (sym none) refl;
 }
 
