@@ -40,6 +40,7 @@ impl<A: Model, D: CoilDriver> Inner<A, D> {
         Ok(())
     }
 
+    // Orders and answer are slices, since any lengths come from outside, and others than 16 are refused.
     pub(crate) fn cycle(&mut self, orders: &[u8], answer: &mut [u8]) -> Result<(), Refusal>
         ensures effect { Called (rules A.Axis.kind A.Model.lines) D.CoilDriver.meaning D.CoilDriver.did Running (cycle orders.now (length answer.old)) self.old self.new result }
         ensures answer { Filled (rules A.Axis.kind A.Model.lines) D.CoilDriver.meaning self.old orders.now answer.old answer.new result }

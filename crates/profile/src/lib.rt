@@ -46,9 +46,9 @@ impl Speed {
     pub fn steps(self) -> Microsteps
         ensures { result.value ≡ signed self }
     {
-        Microsteps {
-            value: along(self.direction, i64::from(self.size)) as i32,
-        }
+        // a size has 16 bits, so the cast keeps all
+        let value = along(self.direction, i64::from(self.size)) as i32;
+        Microsteps { value }
     }
 
     // The way that a move goes: on as it goes, and from standstill toward the target.

@@ -22,7 +22,8 @@ pub enum Open {
     BothStages,
 }
 
-// What a register sets: the module-wide configuration, or one of a motor's currents.
+// What a register sets: the module-wide configuration, or one of a motor's currents. It is no Option of a current, since
+// the configuration is something that is set.
 #[derive(Clone, Copy, PartialEq, Eq, Debug)]
 pub enum Setting {
     Configuration,
