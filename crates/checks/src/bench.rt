@@ -1,5 +1,6 @@
 // A module on the bench: what is sent to it, and what is read of its answer.
 ghost use Rattle.std.specs.Prelude.{◌≡◌, max, Ok, fold};
+ghost use Rattle.std.specs.Fn.{FnOnceReturnsAtMut};
 ghost use Rattle.checks.specs.Bench.{answer_to, bench, fresh, last_answer, position_in, sent, sent_times, word_record};
 
 use coil::CoilId;
@@ -17,6 +18,18 @@ pub(crate) fn prepare(first: u32, second: u32) -> Prepared
     ensures { bench result.inner ≡ fresh first second }
 {
     Module::new(PulseDriver::new(first, second))
+}
+
+// Starts the module, lets it be read, and ends it whatever that gave. It is no call of a module, since a public call
+// asks nothing of its caller, and this one asks for a function that may be called.
+pub(crate) fn while_running<T, F: FnOnce(&mut Spare) -> T>(prepared: Prepared, read: F) -> T
+    requires { F.IsAlwaysCallable read }
+    ensures { (spare ended : _) × (spare.inner ≡ prepared.inner) × FnOnceReturnsAtMut F.FnOnce read spare result ended }
+{
+    let mut spare = prepared.start();
+    let given = read(&mut spare);
+    let _driver = spare.end();
+    given
 }
 
 // A word for motor 1 and a word for motor 2; no PerCoil, so that a send reads its words by place.

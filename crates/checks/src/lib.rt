@@ -15,7 +15,7 @@ mod reading;
 mod runs;
 mod summary;
 
-use bench::{Prepared, Spare, Words, greatest, position, prepare, send, send_times};
+use bench::{Prepared, Spare, Words, greatest, position, prepare, send, send_times, while_running};
 pub use error::CheckError;
 pub use reading::{Quantity, Reading, Sent};
 pub use runs::trip;
@@ -41,8 +41,7 @@ fn read_full_turn(spare: &mut Spare) -> Result<[Reading; 4], Refusal>
 pub fn full_turn() -> Result<[Reading; 4], Refusal>
     ensures { result ≡ Ok full_turn }
 {
-    let (readings, _driver) = prepare(0, 0).while_running(read_full_turn);
-    readings
+    while_running(prepare(0, 0), read_full_turn)
 }
 
 fn read_no_current(spare: &mut Spare) -> Result<[Reading; 4], Refusal>
@@ -64,8 +63,7 @@ fn read_no_current(spare: &mut Spare) -> Result<[Reading; 4], Refusal>
 pub fn no_current() -> Result<[Reading; 4], Refusal>
     ensures { result ≡ Ok no_current }
 {
-    let (readings, _driver) = prepare(0, 0).while_running(read_no_current);
-    readings
+    while_running(prepare(0, 0), read_no_current)
 }
 
 #[tactic(auto, using(crate::proofs::Sending::set_number), unfolding(crate::specs::Bench::fresh))]
@@ -97,7 +95,7 @@ pub fn maximum_current() -> Result<[Reading; 2], Refusal>
 {
     let mut prepared = prepare(0, 0);
     let set = set_maximum(&mut prepared);
-    let (readings, _driver) = prepared.while_running(read_maximum);
+    let readings = while_running(prepared, read_maximum);
     set.and(readings)
 }
 
@@ -122,7 +120,7 @@ pub fn there_and_back() -> Result<[Reading; 4], Refusal>
 {
     let mut prepared = prepare(1000, 0);
     let set = prepared.setting(46, 0x0800);
-    let (readings, _driver) = prepared.while_running(read_there_and_back);
+    let readings = while_running(prepared, read_there_and_back);
     set.and(readings)
 }
 

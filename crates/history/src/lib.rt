@@ -106,7 +106,7 @@ pub fn run<A: Model, D: CoilDriver>(driver: D, history: &mut History) -> Module<
     match &mut history.running {
         None => prepared.close(),
         Some(entries) => {
-            // closed and not ended after this, so that it can be read: `while_running` would end it
+            // closed and not ended after this, so that it can be read
             let mut running = prepared.start();
             make_all(&mut running, entries.as_mut_slice());
             running.close()

@@ -2,7 +2,6 @@
 #![tactic(auto)]
 
 ghost use Rattle.std.specs.Prelude.{◌≡◌, length};
-ghost use Rattle.std.specs.Fn.{FnOnceReturnsAtMut};
 ghost use Rattle.coil.specs.Coils.{at};
 ghost use Rattle.module.specs.Called.{Called, Filled, Made};
 ghost use Rattle.module.specs.Effects.{acknowledgement, cycle, of_motor, report, setting};
@@ -92,16 +91,6 @@ impl<A: Model, D: CoilDriver> Module<Preparation, A, D> {
         ensures { result.inner ≡ self.inner }
     {
         self.at_stage::<Running>()
-    }
-
-    // Starts the module, lends it to a function and ends it: what the function gave, and the driver.
-    pub fn while_running<T, F: FnOnce(&mut Module<Running, A, D>) -> T>(self, run: F) -> (T, D)
-        requires { F.IsAlwaysCallable run }
-        ensures { (running ended : _) × (running.inner ≡ self.inner) × FnOnceReturnsAtMut F.FnOnce run running result.0 ended × (result.1 ≡ ended.inner.driver) }
-    {
-        let mut running = self.start();
-        let given = run(&mut running);
-        (given, running.end())
     }
 }
 

@@ -20,6 +20,17 @@ mod tests {
         Module::new(PulseDriver::new(0, 0))
     }
 
+    // Starts the module, lets it run, and ends it whatever that gave. The checks of a spare have one too, and it is no call
+    // of a module, since a public call asks nothing of its caller.
+    fn while_running<T, F: FnOnce(&mut Started) -> T>(prepared: Prepared, run: F) -> T
+        requires { F.IsAlwaysCallable run }
+    {
+        let mut module = prepared.start();
+        let given = run(&mut module);
+        let _driver = module.end();
+        given
+    }
+
     // One cycle with a word for each motor; gives the answer.
     // The checks of a spare have one too; with theirs these tests would be proved again at each change of check or law.
     fn send(module: &mut Started, first: u16, second: u16) -> Result<[u8; 16], Refusal> {
@@ -70,9 +81,7 @@ mod tests {
 
     #[test]
     fn settings_are_refused_while_running(rt: HostRuntime) -> Result<(), Fail> {
-        prepare()
-            .while_running(|module| refuse_while_running(&rt, module))
-            .0
+        while_running(prepare(), |module| refuse_while_running(&rt, module))
     }
 
     fn refuse_cycles(rt: &impl Abort, module: &mut Started) -> Result<(), Fail> {
@@ -105,16 +114,12 @@ mod tests {
 
     #[test]
     fn cycles_are_refused(rt: HostRuntime) -> Result<(), Fail> {
-        prepare()
-            .while_running(|module| refuse_cycles(&rt, module))
-            .0
+        while_running(prepare(), |module| refuse_cycles(&rt, module))
     }
 
     #[test]
     fn motors_and_flags_are_refused(rt: HostRuntime) -> Result<(), Fail> {
-        prepare()
-            .while_running(|module| refuse_motors(&rt, module))
-            .0
+        while_running(prepare(), |module| refuse_motors(&rt, module))
     }
 
     fn share(rt: &impl Abort, module: &mut Started) -> Result<(), Fail> {
@@ -128,7 +133,7 @@ mod tests {
 
     #[test]
     fn supply_is_shared(rt: HostRuntime) -> Result<(), Fail> {
-        prepare().while_running(|module| share(&rt, module)).0
+        while_running(prepare(), |module| share(&rt, module))
     }
 
     // The count of motor 1 after four words of one step each, with this configuration.
@@ -136,7 +141,7 @@ mod tests {
         let mut prepared = prepare();
         let set = prepared.setting(46, configuration);
         let orders = [1, 128, 1, 128, 1, 128, 1, 128, 0, 0, 0, 0, 0, 0, 0, 0];
-        let (count, _driver) = prepared.while_running(|module| {
+        let count = while_running(prepared, |module| {
             module.cycle(&orders, &mut [0; 16])?;
             module.count(1)
         });
@@ -160,7 +165,7 @@ mod tests {
         assert_eq!(rt; count_after_four(0x0810), Ok(32));
         assert_eq!(rt; count_after_four(0x0868), Ok(2));
         assert_eq!(rt; count_after_four(0x0870), Ok(4));
-        prepare().while_running(|module| wrap(&rt, module)).0
+        while_running(prepare(), |module| wrap(&rt, module))
     }
 
     #[test]
@@ -195,6 +200,6 @@ mod tests {
 
     #[test]
     fn trip_leaves_a_fault(rt: HostRuntime) -> Result<(), Fail> {
-        prepare().while_running(|module| trip(&rt, module)).0
+        while_running(prepare(), |module| trip(&rt, module))
     }
 }
