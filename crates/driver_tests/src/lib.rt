@@ -96,7 +96,7 @@ mod tests {
         let shifts = Layer::new(upper, Layer::new(lower, BridgeDriver::new(5, 0)));
         assert_eq!(rt; shifts.count(coil), 8);
         let one = as_one_shift(shifts);
-        assert_eq!(rt; one.rule().microsteps, 3);
+        assert_eq!(rt; one.shift(), 3);
         assert_eq!(rt; one.count(coil), 8);
     }
 }

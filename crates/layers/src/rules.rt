@@ -1,16 +1,16 @@
 // The two rules: counts that run the other way, and counts raised by a fixed number.
-ghost use Rattle.std.specs.Prelude.{neg_ℤ};
+ghost use Rattle.std.specs.Prelude.{◌≡◌, neg_ℤ};
 ghost use Rattle.std.proofs.Common.{arith};
 ghost use Rattle.layers.specs.Layers.{negated, raised};
 ghost use Rattle.layers.specs.Counts.{negated_steps, raised_steps};
 
-use crate::layer::Recount;
-use coil::Microsteps;
+use crate::layer::{Layer, Recount};
+use coil::{CoilDriver, Microsteps};
 
-#[derive(Clone, Copy, PartialEq, Eq, Debug)]
+#[derive(Clone, Copy, PartialEq, Eq, Debug, Default)]
 pub struct Reversed;
 
-#[derive(Clone, Copy, PartialEq, Eq, Debug)]
+#[derive(Clone, Copy, PartialEq, Eq, Debug, Default)]
 pub struct Shifted {
     // what is added to the counts of both coils, modulo 2^32
     pub microsteps: u32,
@@ -49,5 +49,14 @@ impl Recount for Shifted {
 
     fn steps(self, above: Microsteps) -> Microsteps {
         above
+    }
+}
+
+impl<D: CoilDriver> Layer<Shifted, D> {
+    // The microsteps that are added to the counts below.
+    pub fn shift(&self) -> u32
+        ensures { result ≡ self.now.rule.microsteps }
+    {
+        self.rule().microsteps
     }
 }

@@ -8,4 +8,4 @@ pub returns : goal.returns
 returns g c =
     let driver = c.args.pile.below.below in
     let twice = recounted_same (λ n. negated (negated n)) (g.D.CoilDriver.meaning driver) (λ n. n) (λ i. negated_twice _ (g.met.D.CoilDriver.sound driver i).count) in
-    record { below = search rules; same = search rules }
+    record { meaning = search rules; calls = search rules; below = search rules; same = search rules }
