@@ -8,12 +8,13 @@ use Rattle.checks.specs.declared.reading.Reading.{Reading}
 use Rattle.checks.specs.declared.reading.Sent.{Sent}
 use Rattle.checks.specs.declared.reading.Sent.TheVariants.{Back, BothRuns, FullTurn, MaximumCurrent, NoCurrent, There, WithTrip, WithoutTrip}
 use Rattle.checks.specs.declared.summary.Summary.{Summary}
+use Rattle.coil.specs.Numbers.{number}
 use Rattle.coil.specs.declared.CoilId.{CoilId}
 use Rattle.coil.specs.declared.CoilId.TheVariants.{First, Second}
 
 -- what a good module reads is what is read
 abbrev pub reads : Sent → CoilId → Quantity → ℕ → Reading
-reads sent motor quantity n = record { sent = sent; motor = motor; quantity = quantity; read = n; good = n }
+reads sent motor quantity n = record { sent = sent; motor = number motor; quantity = quantity; read = n; good = n }
 
 -- 32 cycles of 200 steps, 8 microsteps a step: 51,200 microsteps are 200 full steps of 256
 abbrev pub full_turn : List Reading

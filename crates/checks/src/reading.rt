@@ -1,5 +1,6 @@
 // What a check reads, beside what a good module reads.
 ghost use Rattle.std.specs.Prelude.{◌≡◌, ◌==◌};
+ghost use Rattle.coil.specs.Numbers.{number};
 
 use coil::CoilId;
 use std::fmt;
@@ -77,7 +78,8 @@ impl fmt::Display for Quantity {
 #[derive(Clone, Copy, PartialEq, Eq, Debug)]
 pub struct Reading {
     pub sent: Sent,
-    pub motor: CoilId,
+    // 1 or 2; a plain number, since a reading of any motor is told
+    pub motor: u8,
     pub quantity: Quantity,
     pub read: u32,
     // what a good module reads
@@ -87,11 +89,11 @@ pub struct Reading {
 impl Sent {
     // A reading after this.
     pub(crate) fn reading(self, motor: CoilId, quantity: Quantity, read: u32, good: u32) -> Reading
-        ensures { result ≡ record { sent = self; motor = motor; quantity = quantity; read = read; good = good } }
+        ensures { result ≡ record { sent = self; motor = number motor; quantity = quantity; read = read; good = good } }
     {
         Reading {
             sent: self,
-            motor,
+            motor: motor as u8,
             quantity,
             read,
             good,
@@ -116,7 +118,6 @@ impl fmt::Display for Reading {
             read,
             good,
         } = *self;
-        let motor = motor as u8;
         let verdict = if self.is_good() { "good" } else { "bad" };
         write!(
             f,
