@@ -98,6 +98,7 @@ impl<S: ModuleStage, A: Model, D: CoilDriver> Module<S, A, D> {
     // Sets a register: is it in the model's table, open at this stage, the value in range, its motor not powered?
     pub fn setting(&mut self, register: u16, value: i32) -> Result<(), Refusal>
         ensures effect { Called (rules A.Axis.kind A.Model.lines) D.CoilDriver.meaning D.CoilDriver.did S.ModuleStage.stage (setting register value) self.old.inner self.new.inner result }
+        ensures stage { self.new.stage ≡ self.old.stage }
     {
         self.inner.setting(S::stage(), register, value)
     }
@@ -177,6 +178,7 @@ impl<A: Model, D: CoilDriver> Module<Running, A, D> {
     pub fn cycle(&mut self, orders: &[u8], answer: &mut [u8]) -> Result<(), Refusal>
         ensures effect { Called (rules A.Axis.kind A.Model.lines) D.CoilDriver.meaning D.CoilDriver.did stages.Running (cycle orders.now (length answer.old)) self.old.inner self.new.inner result }
         ensures answer { Filled (rules A.Axis.kind A.Model.lines) D.CoilDriver.meaning self.old.inner orders.now answer.old answer.new result }
+        ensures stage { self.new.stage ≡ self.old.stage }
     {
         self.inner.cycle(orders, answer)
     }
@@ -184,6 +186,7 @@ impl<A: Model, D: CoilDriver> Module<Running, A, D> {
     // Reports flags of a motor's coil: a motor that there is, and flags below 16?
     pub fn report(&mut self, motor: u8, flags: u8) -> Result<(), Refusal>
         ensures effect { Called (rules A.Axis.kind A.Model.lines) D.CoilDriver.meaning D.CoilDriver.did stages.Running (report motor flags) self.old.inner self.new.inner result }
+        ensures stage { self.new.stage ≡ self.old.stage }
     {
         self.inner.report(motor, flags)
     }
@@ -191,6 +194,7 @@ impl<A: Model, D: CoilDriver> Module<Running, A, D> {
     // Acknowledges a motor's faults: clears all flags of its coil but overtemperature.
     pub fn acknowledge(&mut self, motor: u8) -> Result<(), Refusal>
         ensures effect { Called (rules A.Axis.kind A.Model.lines) D.CoilDriver.meaning D.CoilDriver.did stages.Running (acknowledgement motor) self.old.inner self.new.inner result }
+        ensures stage { self.new.stage ≡ self.old.stage }
     {
         self.inner.acknowledge(motor)
     }
