@@ -17,12 +17,20 @@ use Rattle.refusal.specs.declared.Refusal.TheVariants.{AnswerLength, RecordLengt
 use Rattle.registers.specs.declared.Stage.{Stage}
 use Rattle.registers.specs.declared.Stage.TheVariants.{Running}
 
+pub same_stand : {C A : Type 0} (s t : Stand C A) → s.first.own ≡ t.first.own → s.first.points ≡ t.first.points → s.second.own ≡ t.second.own → s.second.points ≡ t.second.points → s ≡ t
+same_stand {C} {A} s t a p b q =
+    let make : Share C A → ℕ → Share C A → ℕ → Stand C A = λ h m g n. record { first = record { own = h; points = m }; second = record { own = g; points = n } } in
+    ap (λ z. make z s.first.points s.second.own s.second.points) a
+    ∙ ap (λ z. make t.first.own z s.second.own s.second.points) p
+    ∙ ap (λ z. make t.first.own t.first.points z s.second.points) b
+    ∙ ap (λ z. make t.first.own t.first.points t.second.own z) q
+
 -- two modules stand the same where each motor does
-same_stand : {C A : Type 0} (f g : CoilId → Standing C A) → ((i : CoilId) → (f i).own ≡ (g i).own) → ((i : CoilId) → (f i).points ≡ (g i).points) → both f ≡ both g
-same_stand f g own points = same_both f g (λ i. ap (λ h. record { own = h; points = (f i).points }) (own i) ∙ ap (λ n. record { own = (g i).own; points = n }) (points i))
+same_motors : {C A : Type 0} (f g : CoilId → Standing C A) → ((i : CoilId) → (f i).own ≡ (g i).own) → ((i : CoilId) → (f i).points ≡ (g i).points) → both f ≡ both g
+same_motors f g own points = same_stand (both f) (both g) (own First) (points First) (own Second) (points Second)
 
 pub made_stand : {C A D : Type 0} (k : Kind C A) (meaning : D → Coils) (did : Did D) (d : D) (x : Inner A D C) → Made k meaning did d x → stand k meaning x ≡ first_stand k (meaning d)
-made_stand k meaning did d x m = same_stand (standing k meaning x) (first_standing k (meaning d)) m.motors m.points
+made_stand k meaning did d x m = same_motors (standing k meaning x) (first_standing k (meaning d)) m.motors m.points
 
 pub called_stand : {C A D : Type 0} (k : Rules C A) (meaning : D → Coils) (did : Did D) (stage : Stage) (a : Asked) (x y : Inner A D C) (r : Answer) → Called k meaning did stage a x y r →
     stand k.kind meaning y ≡ stand_after k (stand k.kind meaning x) (record { stage = stage; asked = a })
@@ -30,7 +38,7 @@ called_stand {C} {A} {D} k meaning did stage a x y r c =
     let s : Stand C A = stand k.kind meaning x in
     let q : Query = record { stage = stage; asked = a } in
     let here : (i : CoilId) → standing k.kind meaning x i ≡ at s i = λ i. sym (at_both (standing k.kind meaning x) i) in
-    same_stand (standing k.kind meaning y) (standing_after k s q)
+    same_motors (standing k.kind meaning y) (standing_after k s q)
     (λ i. c.motors i ∙ ap (λ m. share_after k i m q) (here i))
     (λ i. c.points i
     ∙ ap (λ h. points_after i (at (meaning x.driver) i) (wanted k.kind h) (wanted k.kind (share k.kind meaning y Second)) (deed k.lines stage i a)) (c.motors First)

@@ -74,7 +74,7 @@ kept {C} {A} {D} {kind} {lines} {meaning} {did} {d} {h} {g} {x} m law runs sound
     let mine : (i : CoilId) → share kind meaning x i ≡ ending k i (born kind (at (meaning d) i)) (deeds r i) =
     λ i. sym (ap (λ m. m.own) (at_both (standing kind meaning x) i)) ∙ ap (λ (t : Stand C A). (at t i).own) last ∙ own i in
     let fine : AllFine kind (stand kind meaning x) (λ i. quiet true (deeds_of table i qs)) =
-    subst (λ t. AllFine kind t (λ i. quiet true (deeds_of table i qs))) (sym last) (all_fine k s (λ _. true) qs law (first_fine kind law (meaning d))) in
+    subst (λ t. AllFine kind t (λ i. quiet true (deeds_of table i qs))) (sym last) (all_fine k s (λ _. true) qs law.rests (first_fine kind law (meaning d))) in
     let calm : (i : CoilId) → quiet true (deeds_of table i qs) ≡ quiet true (deeds r i) =
     λ i. ap (quiet true) (parts i) ∙ sym (begun quiet_after true (λ z. refl) table i (deeds_of table i r.settings) r.calls) in
     let told : (i : CoilId) → heard table i qs r.told ≡ replies k i (born kind (at (meaning d) i)) (deeds r i) =

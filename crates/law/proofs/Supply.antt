@@ -118,7 +118,7 @@ fine_report k i m b f w v s = record {
     rests true false te ue q y = s.rests q (report_tripped m.own.flags f (ltb-true f 16 te) y ue)
     rests false u te ue q y = s.rests q y
 
-fine_after : {C A : Type 0} (k : Rules C A) (i : CoilId) (m : Standing C A) (b : Bool) (d : Deed) (w v : ℕ) → Lawful k.kind → Fine k.kind m b → min 100 (wanted k.kind (after k i m.own d)) ≤ granted i w v →
+fine_after : {C A : Type 0} (k : Rules C A) (i : CoilId) (m : Standing C A) (b : Bool) (d : Deed) (w v : ℕ) → Rests k.kind → Fine k.kind m b → min 100 (wanted k.kind (after k i m.own d)) ≤ granted i w v →
     Fine k.kind (record { own = after k i m.own d; points = points_after i (coil m) w v (Some d) }) (quiet_after b d)
 fine_after k i m b (sets stage n x) w v law s g =
     let same : wanted k.kind (after k i m.own (sets stage n x)) ≡ wanted k.kind m.own = wants_still (k.kind.current m.own.axis) stage (look_up k.lines n) m.own.currents x in
@@ -131,7 +131,7 @@ fine_after k i m b starts w v law s g = s
 fine_after k i m b (moves orders) w v law s g = record {
   sane = s.sane;
   enough = λ _. g;
-  rests = λ _ t. ap (λ c. chosen c m.own.currents) (law.rests m.own.config m.own.axis (record { count = m.own.count; flags = m.own.flags }) orders t);
+  rests = λ _ t. ap (λ c. chosen c m.own.currents) (law m.own.config m.own.axis (record { count = m.own.count; flags = m.own.flags }) orders t);
 }
 fine_after k i m b (misses n l) w v law s g = s
 fine_after k i m b (reports f) w v law s g = fine_report k i m b f w v s
@@ -141,7 +141,7 @@ abbrev calmed : Bool → Option Deed → Bool
 calmed b None = b
 calmed b (Some d) = quiet_after b d
 
-fine_lives : {C A : Type 0} (k : Rules C A) (i : CoilId) (m : Standing C A) (b : Bool) (o : Option Deed) (w v : ℕ) → Lawful k.kind → Fine k.kind m b → min 100 (wanted k.kind (lives k i m.own o)) ≤ granted i w v →
+fine_lives : {C A : Type 0} (k : Rules C A) (i : CoilId) (m : Standing C A) (b : Bool) (o : Option Deed) (w v : ℕ) → Rests k.kind → Fine k.kind m b → min 100 (wanted k.kind (lives k i m.own o)) ≤ granted i w v →
     Fine k.kind (record { own = lives k i m.own o; points = points_after i (coil m) w v o }) (calmed b o)
 fine_lives k i m b None w v law s g = s
 fine_lives k i m b (Some d) w v law s g = fine_after k i m b d w v law s g
@@ -182,7 +182,7 @@ pub record AllFine {C A : Type 0} (k : Kind C A) (s : Stand C A) (calm : CoilId 
   pub each : (i : CoilId) → Fine k (at s i) (calm i)
   pub together : s.first.points + s.second.points ≤ 267
 
-all_after : {C A : Type 0} (k : Rules C A) (s : Stand C A) (calm : CoilId → Bool) (q : Query) → Lawful k.kind → AllFine k.kind s calm →
+all_after : {C A : Type 0} (k : Rules C A) (s : Stand C A) (calm : CoilId → Bool) (q : Query) → Rests k.kind → AllFine k.kind s calm →
     AllFine k.kind (stand_after k s q) (λ i. calmed (calm i) (deed k.lines q.stage i q.asked))
 all_after {C} {A} k s calm q law f =
     let o : CoilId → Option Deed = λ i. deed k.lines q.stage i q.asked in
@@ -201,7 +201,7 @@ quiet_more b None ds = refl
 quiet_more b (Some d) ds = refl
 
 -- after any list of calls
-pub all_fine : {C A : Type 0} (k : Rules C A) (s : Stand C A) (calm : CoilId → Bool) (qs : List Query) → Lawful k.kind → AllFine k.kind s calm → AllFine k.kind (stands k s qs) (λ i. quiet (calm i) (deeds_of k.lines i qs))
+pub all_fine : {C A : Type 0} (k : Rules C A) (s : Stand C A) (calm : CoilId → Bool) (qs : List Query) → Rests k.kind → AllFine k.kind s calm → AllFine k.kind (stands k s qs) (λ i. quiet (calm i) (deeds_of k.lines i qs))
 all_fine k s calm [] law f = f
 all_fine {C} {A} k s calm (q ∷ qs) law f =
     let o : CoilId → Option Deed = λ i. deed k.lines q.stage i q.asked in
