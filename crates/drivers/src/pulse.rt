@@ -64,8 +64,8 @@ impl PulseDriver {
     }
 }
 
-// Five calls are passed on as they are: one impl for all drivers that hold a pair would not fit this one, whose
-// advance and `did` are its own.
+// All calls but an advance are passed on as they are: one impl for all drivers that hold a pair would not fit this one,
+// whose advance and `did` are its own.
 impl CoilDriver for PulseDriver {
     ghost meaning = { pulse_meaning };
 
