@@ -26,12 +26,12 @@ reversal_meaning meaning x = reversed (meaning x.below)
 
 -- the driver below did the call with the sign of its steps turned
 abbrev pub ReversalDid : {D : Type 0} → Did D → Did (Layer Reversed D)
-ReversalDid did = LayerDid (λ _. neg_ℤ) did
+ReversalDid did x call y = did x.below (turned neg_ℤ call) y.below
 
 -- what zero shift means over a driver with this meaning
 abbrev pub shift_meaning : {D : Type 0} → (D → Coils) → Layer Shifted D → Coils
 shift_meaning meaning x = shifted x.rule.microsteps (meaning x.below)
 
--- the shift stays, and the driver below did the call with the same steps
+-- the shift stays, and the driver below did the same call
 abbrev pub ShiftDid : {D : Type 0} → Did D → Did (Layer Shifted D)
-ShiftDid did = LayerDid (λ _ steps. steps) did
+ShiftDid did x call y = (y.rule ≡ x.rule) × did x.below call y.below

@@ -10,6 +10,7 @@ use coil::{CoilDriver, Microsteps};
 #[derive(Clone, Copy, PartialEq, Eq, Debug, Default)]
 pub struct Reversed;
 
+// By default nothing is added.
 #[derive(Clone, Copy, PartialEq, Eq, Debug, Default)]
 pub struct Shifted {
     // what is added to the counts of both coils, modulo 2^32
