@@ -8,50 +8,47 @@ use Rattle.checks.specs.declared.reading.Reading.{Reading}
 use Rattle.checks.specs.declared.reading.Sent.{Sent}
 use Rattle.checks.specs.declared.reading.Sent.TheVariants.{Back, BothRuns, FullTurn, MaximumCurrent, NoCurrent, There, WithTrip, WithoutTrip}
 use Rattle.checks.specs.declared.summary.Summary.{Summary}
-use Rattle.coil.specs.Numbers.{number}
-use Rattle.coil.specs.declared.CoilId.{CoilId}
-use Rattle.coil.specs.declared.CoilId.TheVariants.{First, Second}
 
 -- what a good module reads is what is read
-abbrev pub reads : Sent → CoilId → Quantity → ℕ → Reading
-reads sent motor quantity n = record { sent = sent; motor = number motor; quantity = quantity; read = n; good = n }
+abbrev pub reads : Sent → ℕ → Quantity → ℕ → Reading
+reads sent motor quantity n = record { sent = sent; motor = motor; quantity = quantity; read = n; good = n }
 
 -- 32 cycles of 200 steps, 8 microsteps a step: 51,200 microsteps are 200 full steps of 256
 abbrev pub full_turn : List Reading
 full_turn =
-    reads FullTurn First Count 0
-    ∷ reads FullTurn First GreatestByte 0
-    ∷ reads FullTurn Second Position 6400
-    ∷ reads FullTurn Second Count 51200
+    reads FullTurn 1 Count 0
+    ∷ reads FullTurn 1 GreatestByte 0
+    ∷ reads FullTurn 2 Position 6400
+    ∷ reads FullTurn 2 Count 51200
     ∷ []
 
 abbrev pub no_current : List Reading
 no_current =
-    reads NoCurrent First Count 0
-    ∷ reads NoCurrent First Position 0
-    ∷ reads NoCurrent Second Count 0
-    ∷ reads NoCurrent Second Position 0
+    reads NoCurrent 1 Count 0
+    ∷ reads NoCurrent 1 Position 0
+    ∷ reads NoCurrent 2 Count 0
+    ∷ reads NoCurrent 2 Position 0
     ∷ []
 
 -- the supply has 267 points
 abbrev pub maximum_current : List Reading
-maximum_current = reads MaximumCurrent First Points 167 ∷ reads MaximumCurrent Second Points 100 ∷ []
+maximum_current = reads MaximumCurrent 1 Points 167 ∷ reads MaximumCurrent 2 Points 100 ∷ []
 
 -- 512 steps are 4,096 microsteps
 abbrev pub there_and_back : List Reading
 there_and_back =
-    reads There First Count 5096
-    ∷ reads There First Position 512
-    ∷ reads Back First Count 1000
-    ∷ reads Back First Position 0
+    reads There 1 Count 5096
+    ∷ reads There 1 Position 512
+    ∷ reads Back 1 Count 1000
+    ∷ reads Back 1 Position 0
     ∷ []
 
 -- motor 2 takes four words of 200 steps
 abbrev pub one_run : Sent → ℕ → List Reading
-one_run sent count = reads sent First Count count ∷ reads sent Second Count 6400 ∷ reads sent Second Flags 0 ∷ reads sent Second Faults 0 ∷ []
+one_run sent count = reads sent 1 Count count ∷ reads sent 2 Count 6400 ∷ reads sent 2 Flags 0 ∷ reads sent 2 Faults 0 ∷ []
 
 abbrev pub both_runs : List Reading
-both_runs = reads BothRuns Second OtherNumbers 0 ∷ reads BothRuns Second OtherAnswers 0 ∷ []
+both_runs = reads BothRuns 2 OtherNumbers 0 ∷ reads BothRuns 2 OtherAnswers 0 ∷ []
 
 -- motor 1 takes four words of 100 steps, or the two before the trip
 abbrev pub trip : List Reading
